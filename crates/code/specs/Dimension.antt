@@ -1,0 +1,52 @@
+-- "k the sum of the binomials of m over 0 to r". Assumes nothing.
+use Prim.Native.Nat.{ℕ, zero, suc, _+_, _^_}
+use native.Mathlib.Nat.{add-zero}
+use native.Mathlib.Omega.{arith}
+use mathlib.Core.Path.{_≡_, refl, sym, ap, ap₂, _∙_}
+use mathlib.Core.Bool.{Bool}
+use lib.Dec.{leb, leb·zero, leb·suc-zero, leb·suc-suc}
+use lib.Count.{ones}
+use Rattle.code.specs.Code.{degree, dimension, rank}
+use Rattle.words.specs.Sum.{sumBelow, total}
+use Rattle.words.specs.SumLaws.{sum-ext, sum-halves, sum-zero}
+use Rattle.words.specs.TopBit.{ones-top}
+use Rattle.words.specs.Word.{indicator}
+
+-- n over k
+unfoldable pub choose : ℕ → ℕ → ℕ
+choose n zero = 1
+choose zero (suc k) = 0
+choose (suc n) (suc k) = choose n k + choose n (suc k)
+
+-- a mask with the top bit has one more one
+dimension-halves : (m r : ℕ) → dimension (suc m) r ≡ dimension m r + sumBelow (2 ^ m) (λ A. indicator (leb (suc (degree A)) r))
+unfolding dimension rank
+dimension-halves m r =
+    sum-halves m (λ B. indicator (leb (degree B) r))
+    ∙ ap (λ (x : ℕ). dimension m r + x) (sum-ext (2 ^ m) _ _ (λ A a. ap (λ (d : ℕ). indicator (leb d r)) (ones-top m A a)))
+
+dimension-suc : (m r : ℕ) → dimension (suc m) (suc r) ≡ dimension m (suc r) + dimension m r
+unfolding dimension rank
+dimension-suc m r = dimension-halves m (suc r) ∙ ap (λ (x : ℕ). dimension m (suc r) + x) (sum-ext (2 ^ m) _ _ (λ A a. ap indicator (leb·suc-suc (degree A) r)))
+
+dimension-constant : (m : ℕ) → dimension (suc m) 0 ≡ dimension m 0
+dimension-constant m =
+    dimension-halves m 0
+    ∙ ap (λ (x : ℕ). dimension m 0 + x) (sum-zero (2 ^ m) _ (λ A a. ap indicator (leb·suc-zero (degree A)))) ∙ add-zero _
+
+-- the sums of binomials grow in the same way
+choose-sum : (m r : ℕ) → sumBelow (suc (suc r)) (choose (suc m)) ≡ sumBelow (suc (suc r)) (choose m) + sumBelow (suc r) (choose m)
+unfolding total choose
+choose-sum m zero = omega arith
+choose-sum m (suc r) = omega (arith, choose-sum m r)
+
+choose-zero : (r : ℕ) → sumBelow (suc r) (choose 0) ≡ 1
+unfolding total choose
+choose-zero zero = refl
+choose-zero (suc r) = omega (arith, choose-zero r)
+
+pub dimension-choose : (m r : ℕ) → dimension m r ≡ sumBelow (suc r) (choose m)
+unfolding dimension rank total ones choose
+dimension-choose zero r = (ap (λ (t : Bool). 0 + indicator t) (leb·zero r) ∙ sym (choose-zero r))
+dimension-choose (suc m) zero = dimension-constant m ∙ dimension-choose m zero
+dimension-choose (suc m) (suc r) = dimension-suc m r ∙ ap₂ _+_ (dimension-choose m (suc r)) (dimension-choose m r) ∙ sym (choose-sum m r)

@@ -1,0 +1,4 @@
+-- Definitions: Reading, Decoding, Calls. The rest are laws.
+pub mod Reading
+pub mod Decoding
+pub mod Calls

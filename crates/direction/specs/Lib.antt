@@ -1,0 +1,2 @@
+-- Definitions: Direction. The rest are laws.
+pub mod Direction

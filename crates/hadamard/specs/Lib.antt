@@ -1,0 +1,2 @@
+-- Definitions: Correlation. The rest are laws.
+pub mod Correlation

@@ -1,0 +1,2 @@
+-- Definitions: Profiles.
+pub mod Profiles

@@ -1,0 +1,25 @@
+-- `refusals::check_code` meets its contract. Assumes nothing.
+use native.Mathlib.Omega.{arith}
+use Rattle.refusals.specs.declared.Refusal.the-variants.{Exponent, Order}
+use Rattle.refusals.specs.CheckLaws.{exponent-low, exponent-high, order-high, no-more, code-then, refuses, all-pass}
+use Rattle.refusals.proofs.check_code.Statement.{statement}
+use Rattle.refusals.proofs.check_code.Tie as tie
+
+returns : tie.Need-returns
+returns c = refuses Exponent (λ e. omega arith) (exponent-low (c .before .args .m) (c .before .args .r) (omega arith))
+
+returns-2 : tie.Need-returns-2
+returns-2 c = refuses Exponent (λ e. omega arith) (exponent-high (c .before .before .args .m) (c .before .before .args .r) (omega arith) (omega arith))
+
+returns-3 : tie.Need-returns-3
+returns-3 c =
+    let a = c .before .before .before .args in
+    refuses Order (λ e. omega arith) (order-high (a .m) (a .r) (omega arith) (omega arith) (omega arith))
+
+returns-4 : tie.Need-returns-4
+returns-4 c =
+    let a = c .before .before .before .args in
+    all-pass (code-then {m = a .m} {r = a .r} (record { some = omega arith; most = omega arith; order = omega arith }) _ no-more)
+
+pub check-code-spec : {M : Type 1} → statement M
+check-code-spec = tie.close (tie.spec returns returns-2 returns-3 returns-4)

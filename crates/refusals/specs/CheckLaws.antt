@@ -1,0 +1,108 @@
+-- Laws of the checks of a call: what each test on the way says of the number of the first that fails. Assumes nothing.
+use Prim.Native.Nat.{ℕ, suc, _^_, _≤_, _<_}
+use native.Mathlib.Omega.{arith}
+use native.Mathlib.Decide.{decLt}
+use mathlib.Core.Path.{_≡_, refl, sym, ap, _∙_, subst}
+use mathlib.Core.Bool.{Bool, true, false, cond}
+use mathlib.Core.List.{List, [], _∷_, _++_}
+use lib.ListN.{length, List·getD-eq-default}
+use lib.Dec.{leb, eqb}
+use borrow.Author.Tests.{le-leb, lt-leb, leb-true, eqb-true, ltb-true, lt-ltb, le-ltb}
+use Rattle.words.specs.SumLaws.{all-true, true-all, some-false}
+use Rattle.words.specs.Word.{bit, Scanned}
+use Rattle.refusals.specs.Refusals.{IsBadPlace, Named, Checked, numberOf, answerNumber, Check, check, firstRefusal, codeChecks, allBits, byteChecks}
+use Rattle.refusals.specs.declared.Refusal.{Refusal}
+use Rattle.refusals.specs.declared.Refusal.the-variants.{BadByte}
+use Rattle.refusals.specs.declared.Answer.{Answer}
+use Rattle.refusals.specs.declared.Answer.the-variants.{Done, Refused}
+
+pub no-more : 0 ≡ firstRefusal []
+unfolding firstRefusal
+no-more = refl
+
+module _ (n : ℕ) (ok : Bool) (cs : List Check) where
+  pub fails : ok ≡ false → n ≡ firstRefusal (check n ok ∷ cs)
+  unfolding firstRefusal
+  fails e = rw e
+
+  pub passes : {x : ℕ} → ok ≡ true → x ≡ firstRefusal cs → x ≡ firstRefusal (check n ok ∷ cs)
+  unfolding firstRefusal
+  passes e p = rw e p
+
+-- where no check fails, the first does not, and none of the rest
+pub passed : (n : ℕ) (ok : Bool) (cs : List Check) → firstRefusal (check (suc n) ok ∷ cs) ≡ 0 → (ok ≡ true) × (firstRefusal cs ≡ 0)
+unfolding firstRefusal
+passed n true cs e = (refl, e)
+passed n false cs e = absurd (omega arith)
+
+-- ---- checks made one group after the other
+
+-- the first group refuses
+pub already : (cs ds : List Check) {x : ℕ} → 0 < x → x ≡ firstRefusal cs → x ≡ firstRefusal (cs ++ ds)
+unfolding firstRefusal
+already [] ds h e = absurd (omega arith)
+already (check n true ∷ cs) ds h e = already cs ds h e
+already (check n false ∷ cs) ds h e = e
+
+-- ---- the code
+
+pub record IsCode (m r : ℕ) : Type 0 where
+  pub some : 1 ≤ m
+  pub most : m ≤ 10
+  pub order : r ≤ m
+
+pub code-passed : (m r : ℕ) → 0 ≡ firstRefusal (codeChecks m r) → IsCode m r
+code-passed m r e =
+    let one = passed 0 _ _ (sym e) in
+    let two = passed 0 _ _ (one .1) in
+    let three = passed 1 _ _ (two .1) in
+    record { some = leb-true 1 m (one .0); most = leb-true m 10 (two .0); order = leb-true r m (three .0) }
+
+module _ (m r : ℕ) where
+  pub exponent-low : m < 1 → 1 ≡ firstRefusal (codeChecks m r)
+  exponent-low l = fails _ _ _ (lt-leb 1 m l)
+
+  pub exponent-high : 1 ≤ m → 10 < m → 1 ≡ firstRefusal (codeChecks m r)
+  exponent-high a l = passes _ _ _ (le-leb 1 m a) (fails _ _ _ (lt-leb m 10 l))
+
+  pub order-high : 1 ≤ m → m ≤ 10 → m < r → 2 ≡ firstRefusal (codeChecks m r)
+  order-high a b l = passes _ _ _ (le-leb 1 m a) (passes _ _ _ (le-leb m 10 b) (fails _ _ _ (lt-leb r m l)))
+
+-- the exponent and the order pass
+pub code-then : {m r : ℕ} → IsCode m r → (cs : List Check) {x : ℕ} → x ≡ firstRefusal cs → x ≡ firstRefusal (codeChecks m r ++ cs)
+code-then {m} {r} c cs p = passes _ _ _ (le-leb 1 m (c .some)) (passes _ _ _ (le-leb m 10 (c .most)) (passes _ _ _ (le-leb r m (c .order)) p))
+
+-- ---- the place that 8 names
+
+pub other-place : (s : List ℕ) (a : Answer) → (answerNumber a ≡ 8 → ⊥) → Named s a
+other-place s a h = record { bad = λ p e. absurd (h (ap answerNumber e)) }
+
+pub named-place : {s : List ℕ} {p : ℕ} → IsBadPlace s p → Named s (Refused (BadByte p))
+named-place {s} {p} h = record { bad = λ q e. subst (IsBadPlace s) (cc) h }
+
+-- ---- bytes
+
+pub bits-tested : (s : List ℕ) → allBits s ≡ true → (p : ℕ) → bit s p < 2
+unfolding allBits
+bits-tested s e q = elim (decLt q (length s)) [
+  | yes b ↦ ltb-true (bit s q) 2 (all-true (length s) _ e q b)
+  | no b ↦ rw (List·getD-eq-default s 0 {n = q} (omega arith)) (omega arith)
+]
+
+module _ (s : List ℕ) (p : ℕ) (h : Scanned s p) where
+  pub bytes-fail : p < length s → 8 ≡ firstRefusal (byteChecks s)
+  unfolding allBits
+  bytes-fail l = fails 8 _ _ (some-false (length s) _ p l (le-ltb (bit s p) 2 (h .found l)))
+
+  pub bytes-pass : length s ≤ p → 0 ≡ firstRefusal (byteChecks s)
+  unfolding allBits
+  bytes-pass l = passes 8 _ _ (true-all (length s) _ (λ q b. lt-ltb (bit s q) 2 (h .before q (omega arith)))) no-more
+
+-- ---- what a checking function answers
+
+pub all-pass : {cs : List Check} {s : List ℕ} → 0 ≡ firstRefusal cs → Checked cs s Done
+all-pass {cs} {s} e = record { number = e; place = other-place s Done (λ z. absurd (omega arith)) }
+
+-- a refusal other than 8
+pub refuses : {cs : List Check} {s : List ℕ} (why : Refusal) → (numberOf why ≡ 8 → ⊥) → numberOf why ≡ firstRefusal cs → Checked cs s (Refused why)
+refuses {cs} {s} why h e = record { number = e; place = other-place s (Refused why) h }

@@ -1,0 +1,73 @@
+-- Document 01, "Refusals by who causes them": the numbers, and checks in order. Assumes nothing.
+use Prim.Native.Nat.{ℕ, _<_}
+use mathlib.Core.Path.{_≡_}
+use mathlib.Core.Bool.{Bool, cond}
+use mathlib.Core.List.{List, [], _∷_}
+use lib.ListN.{length}
+use lib.Dec.{leb, ltb}
+use Rattle.words.specs.Sum.{allBelow}
+use Rattle.words.specs.Word.{bit}
+use Rattle.refusals.specs.declared.Refusal.{Refusal}
+use Rattle.refusals.specs.declared.Refusal.the-variants.{Exponent, Order, RoundLimit, LeafLimit, InputLength, OutputLength, AreaLength, BadByte, Tie, Flipping, Unsettled, TooManyLeaves, NotCodeword, Profile, Header, Truncated}
+use Rattle.refusals.specs.declared.Answer.{Answer}
+use Rattle.refusals.specs.declared.Answer.the-variants.{Done, Refused}
+
+-- the document's number of each case
+abbrev pub numberOf : Refusal → ℕ
+numberOf Exponent = 1
+numberOf Order = 2
+numberOf RoundLimit = 3
+numberOf LeafLimit = 4
+numberOf InputLength = 5
+numberOf OutputLength = 6
+numberOf AreaLength = 7
+numberOf (BadByte p) = 8
+numberOf Tie = 9
+numberOf Flipping = 10
+numberOf Unsettled = 11
+numberOf TooManyLeaves = 12
+numberOf NotCodeword = 13
+numberOf Profile = 14
+numberOf Header = 15
+numberOf Truncated = 16
+
+-- 0 where nothing is refused
+abbrev pub answerNumber : Answer → ℕ
+answerNumber Done = 0
+answerNumber (Refused why) = numberOf why
+
+-- "8: a byte of the input above 1. The answer names a place that holds one."
+pub record IsBadPlace (s : List ℕ) (p : ℕ) : Type 0 where
+  pub within : p < length s
+  pub above : 1 < bit s p
+
+-- where an answer is 8, it names such a place of s
+pub record Named (s : List ℕ) (a : Answer) : Type 0 where
+  pub bad : (p : ℕ) → a ≡ Refused (BadByte p) → IsBadPlace s p
+
+-- ---- checks, "in order of checking"
+
+-- a test, and the number of the refusal where it fails
+pub data Check : Type 0 where
+  check : ℕ → Bool → Check
+
+-- the number of the first check that fails, 0 where none does
+unfoldable pub firstRefusal : List Check → ℕ
+firstRefusal [] = 0
+firstRefusal (check n ok ∷ cs) = cond ok (firstRefusal cs) n
+
+-- "1: m outside 1 to 10. 2: r above m."
+abbrev pub codeChecks : ℕ → ℕ → List Check
+codeChecks m r = check 1 (leb 1 m) ∷ check 1 (leb m 10) ∷ check 2 (leb r m) ∷ []
+
+unfoldable pub allBits : List ℕ → Bool
+allBits s = allBelow (length s) (λ p. ltb (bit s p) 2)
+
+-- "8: a byte of the input above 1."
+abbrev pub byteChecks : List ℕ → List Check
+byteChecks s = check 8 (allBits s) ∷ []
+
+-- what a function that makes the checks cs of a call with the input s answers
+pub record Checked (cs : List Check) (s : List ℕ) (a : Answer) : Type 0 where
+  pub number : answerNumber a ≡ firstRefusal cs
+  pub place : Named s a

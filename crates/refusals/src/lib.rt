@@ -1,0 +1,82 @@
+// Why a call is refused, and the checks that come before any work.
+ghost use mathlib.Core.Path.{_≡_};
+ghost use mathlib.Core.List.{[]};
+ghost use Rattle.refusals.specs.Refusals.{numberOf, Checked, codeChecks, byteChecks};
+
+// Document 01, "Refusals by who causes them", in the order of their numbers.
+pub enum Refusal {
+    Exponent,
+    Order,
+    RoundLimit,
+    LeafLimit,
+    InputLength,
+    OutputLength,
+    AreaLength,
+    // A place that holds a byte above 1.
+    BadByte(usize),
+    Tie,
+    Flipping,
+    Unsettled,
+    TooManyLeaves,
+    NotCodeword,
+    Profile,
+    Header,
+    Truncated,
+}
+
+// What a call that gives nothing but its output answers.
+pub enum Answer {
+    Done,
+    Refused(Refusal),
+}
+
+// The document's number of a refusal.
+pub fn number(why: Refusal) -> u8
+    ensures { λ n. ⌜ n ≡ numberOf why ⌝ }
+{
+    match why {
+        Refusal::Exponent => 1,
+        Refusal::Order => 2,
+        Refusal::RoundLimit => 3,
+        Refusal::LeafLimit => 4,
+        Refusal::InputLength => 5,
+        Refusal::OutputLength => 6,
+        Refusal::AreaLength => 7,
+        Refusal::BadByte(_) => 8,
+        Refusal::Tie => 9,
+        Refusal::Flipping => 10,
+        Refusal::Unsettled => 11,
+        Refusal::TooManyLeaves => 12,
+        Refusal::NotCodeword => 13,
+        Refusal::Profile => 14,
+        Refusal::Header => 15,
+        Refusal::Truncated => 16,
+    }
+}
+
+// 1 and 2: the exponent and the order.
+pub fn check_code(m: usize, r: usize) -> Answer
+    ensures { λ a. ⌜ Checked (codeChecks m r) [] a ⌝ }
+{
+    if m < 1 {
+        return Answer::Refused(Refusal::Exponent);
+    }
+    if 10 < m {
+        return Answer::Refused(Refusal::Exponent);
+    }
+    if m < r {
+        return Answer::Refused(Refusal::Order);
+    }
+    Answer::Done
+}
+
+// 8: a byte above 1.
+pub fn check_bytes(s: &[u8]) -> Answer
+    ensures { λ a. ⌜ Checked (byteChecks (now (s .entry))) (now (s .entry)) a ⌝ }
+{
+    let place = words::bad_place(s);
+    if place < s.len() {
+        return Answer::Refused(Refusal::BadByte(place));
+    }
+    Answer::Done
+}

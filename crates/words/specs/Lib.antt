@@ -1,0 +1,8 @@
+-- Definitions: Sum, Word. What the loops promise: Written. The rest are laws.
+pub mod Sum
+pub mod Word
+pub mod Written
+pub mod TopBit
+pub mod Xor
+pub mod SumLaws
+pub mod WordLaws

@@ -1,0 +1,37 @@
+// Words: their size, their bytes, and copies of them.
+ghost use mathlib.Core.Path.{_≡_};
+ghost use Prim.Native.Nat.{_^_, _≤_};
+ghost use lib.ListN.{length};
+ghost use Rattle.words.specs.Word.{Scanned};
+
+// The number of places of a word of exponent m.
+pub fn size(m: usize) -> usize
+    requires { ⌜ m ≤ 10 ⌝ }
+    ensures { λ n. ⌜ n ≡ 2 ^ m ⌝ }
+{
+    1 << m
+}
+
+// The first place whose byte is above 1, or the length of s.
+pub fn bad_place(s: &[u8]) -> usize
+    ensures { λ p. ⌜ Scanned (now (s .entry)) p ⌝ }
+{
+    let mut p = 0;
+    while p < s.len() {
+        if 1 < s[p] {
+            return p;
+        }
+        p += 1;
+    }
+    p
+}
+
+// Copies src to dst.
+pub fn copy(src: &[u8], dst: &mut [u8])
+    requires { ⌜ length (now src) ≡ length (now dst) ⌝ }
+    ensures { λ _. ⌜ now (dst .exit) ≡ now (src .entry) ⌝ }
+{
+    for i in 0..dst.len() {
+        dst[i] = src[i];
+    }
+}
