@@ -43,9 +43,13 @@ pub record IsCodeword (m r : ℕ) (w : List ℕ) : Type 0 where
   pub word : IsWord m w
   pub low : (A : ℕ) → A < 2 ^ m → r < degree A → coefficient m w A ≡ 0
 
+-- f is 0 at the masks below n of degree above r
+unfoldable pub lowTest : ℕ → (ℕ → ℕ) → ℕ → Bool
+lowTest r f n = allBelow n (λ A. cond (leb (degree A) r) true (eqb (f A) 0))
+
 -- the same as a test
 unfoldable pub codewordTest : ℕ → ℕ → List ℕ → Bool
-codewordTest m r w = allBelow (2 ^ m) (λ A. cond (leb (degree A) r) true (eqb (coefficient m w A) 0))
+codewordTest m r w = lowTest r (coefficient m w) (2 ^ m)
 
 -- f at the masks below n of degree at most r, ascending
 unfoldable pub gather : ℕ → (ℕ → ℕ) → ℕ → List ℕ

@@ -11,7 +11,7 @@ use lib.Dec.{leb, eqb}
 use lib.ListN.{length, List·getD-eq-default}
 use lib.Seq.{ext-getD}
 use borrow.Author.Tests.{eqb-true, eq-eqb, le-leb, lt-leb}
-use Rattle.code.specs.Code.{IsCodeword, codewordTest, coefficient, degree}
+use Rattle.code.specs.Code.{IsCodeword, codewordTest, coefficient, degree, lowTest}
 use Rattle.code.specs.Degree.{Low, _⊕_, coef, coef-parity, coef-plus, low-parity, low-plus}
 use Rattle.words.specs.SumLaws.{all-ext, all-true, true-all}
 use Rattle.words.specs.Word.{IsWord, addWords, bit}
@@ -62,16 +62,16 @@ one-same d r x y h = elim (decLe d r) [
 
 -- the test passes exactly at codewords
 pub codeword-of-test : (m r : ℕ) (w : List ℕ) → IsWord m w → codewordTest m r w ≡ true → IsCodeword m r w
-unfolding codewordTest
+unfolding codewordTest lowTest
 codeword-of-test m r w h e = record { word = h; low = λ A hA d. one-true (degree A) r (coefficient m w A) (all-true (2 ^ m) _ e A hA) d }
 
 pub test-of-codeword : (m r : ℕ) (w : List ℕ) → IsCodeword m r w → codewordTest m r w ≡ true
-unfolding codewordTest
+unfolding codewordTest lowTest
 test-of-codeword m r w c = true-all (2 ^ m) _ (λ A hA. true-one (degree A) r (coefficient m w A) (c .low A hA))
 
 -- adding a codeword does not change the test
 pub test-add : (m r : ℕ) (w c : List ℕ) → IsWord m w → IsCodeword m r c → codewordTest m r (addWords w c) ≡ codewordTest m r w
-unfolding codewordTest
+unfolding codewordTest lowTest
 test-add m r w c hw hc =
     all-ext (2 ^ m) _ _ (λ A hA. one-same (degree A) r (coefficient m (addWords w c) A) (coefficient m w A) (same A hA))
   where

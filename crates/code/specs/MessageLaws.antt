@@ -90,7 +90,7 @@ gather-spread r f message (suc n) h l = elim (decLe (degree n) r) [
 
 -- ---- reading and encoding
 
-spread-in : (r : ℕ) (message : List ℕ) (A : ℕ) → degree A ≤ r → spread r message A ≡ bit message (rank r A)
+pub spread-in : (r : ℕ) (message : List ℕ) (A : ℕ) → degree A ≤ r → spread r message A ≡ bit message (rank r A)
 unfolding spread
 spread-in r message A h = rw (le-leb (degree A) r h)
 

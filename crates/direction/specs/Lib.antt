@@ -1,2 +1,7 @@
--- Definitions: Direction. The rest are laws.
+-- Definitions: Direction. What the functions ask and promise: Votes. The rest are laws.
 pub mod Direction
+pub mod Votes
+pub mod Insert
+pub mod Projection
+pub mod Projected
+pub mod Cosets

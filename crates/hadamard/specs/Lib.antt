@@ -1,2 +1,11 @@
--- Definitions: Correlation. The rest are laws.
+-- Definitions: Correlation. What the functions ask and promise: Leaf. The rest are laws.
 pub mod Correlation
+pub mod Leaf
+pub mod AffineWords
+pub mod CorrelationLaws
+pub mod Peak
+pub mod PeakExt
+pub mod Transform
+pub mod Search
+pub mod Bits32
+pub mod Blocks8

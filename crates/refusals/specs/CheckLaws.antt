@@ -1,18 +1,17 @@
 -- Laws of the checks of a call: what each test on the way says of the number of the first that fails. Assumes nothing.
-use Prim.Native.Nat.{ℕ, suc, _^_, _≤_, _<_}
+use Prim.Native.Nat.{ℕ, zero, suc, _^_, _≤_, _<_}
 use native.Mathlib.Omega.{arith}
 use native.Mathlib.Decide.{decLt}
 use mathlib.Core.Path.{_≡_, refl, sym, ap, _∙_, subst}
-use mathlib.Core.Bool.{Bool, true, false, cond}
+use mathlib.Core.Bool.{Bool, true, false}
 use mathlib.Core.List.{List, [], _∷_, _++_}
 use lib.ListN.{length, List·getD-eq-default}
-use lib.Dec.{leb, eqb}
 use borrow.Author.Tests.{le-leb, lt-leb, leb-true, eqb-true, ltb-true, lt-ltb, le-ltb}
 use Rattle.words.specs.SumLaws.{all-true, true-all, some-false}
 use Rattle.words.specs.Word.{bit, Scanned}
 use Rattle.refusals.specs.Refusals.{IsBadPlace, Named, Checked, numberOf, answerNumber, Check, check, firstRefusal, codeChecks, allBits, byteChecks}
 use Rattle.refusals.specs.declared.Refusal.{Refusal}
-use Rattle.refusals.specs.declared.Refusal.the-variants.{BadByte}
+use Rattle.refusals.specs.declared.Refusal.the-variants.{Exponent, Order, RoundLimit, LeafLimit, InputLength, OutputLength, AreaLength, BadByte, Tie, Flipping, Unsettled, TooManyLeaves, NotCodeword, Profile, Header, Truncated}
 use Rattle.refusals.specs.declared.Answer.{Answer}
 use Rattle.refusals.specs.declared.Answer.the-variants.{Done, Refused}
 
@@ -37,12 +36,41 @@ passed n false cs e = absurd (omega arith)
 
 -- ---- checks made one group after the other
 
+-- no check has the number 0
+abbrev pub Numbered : List Check → Type 0
+Numbered [] = Unit {0}
+Numbered (check zero ok ∷ cs) = ⊥
+Numbered (check (suc n) ok ∷ cs) = Numbered cs
+
+-- the first group passes
+pub then : (cs ds : List Check) → Numbered cs → 0 ≡ firstRefusal cs → {x : ℕ} → x ≡ firstRefusal ds → x ≡ firstRefusal (cs ++ ds)
+unfolding firstRefusal
+then [] ds t e p = p
+then (check zero ok ∷ cs) ds t e p = absurd t
+then (check (suc n) true ∷ cs) ds t e p = then cs ds t e p
+then (check (suc n) false ∷ cs) ds t e p = absurd (omega arith)
+
 -- the first group refuses
 pub already : (cs ds : List Check) {x : ℕ} → 0 < x → x ≡ firstRefusal cs → x ≡ firstRefusal (cs ++ ds)
 unfolding firstRefusal
 already [] ds h e = absurd (omega arith)
 already (check n true ∷ cs) ds h e = already cs ds h e
 already (check n false ∷ cs) ds h e = e
+
+-- where two groups pass, the second does
+pub rest-passed : (cs ds : List Check) → Numbered cs → firstRefusal (cs ++ ds) ≡ 0 → firstRefusal ds ≡ 0
+unfolding firstRefusal
+rest-passed [] ds h e = e
+rest-passed (check zero ok ∷ cs) ds h e = absurd h
+rest-passed (check (suc n) true ∷ cs) ds h e = rest-passed cs ds h e
+rest-passed (check (suc n) false ∷ cs) ds h e = absurd (omega arith)
+
+-- a second group that passes changes nothing
+pub rest-passes : (cs ds : List Check) → 0 ≡ firstRefusal ds → firstRefusal (cs ++ ds) ≡ firstRefusal cs
+unfolding firstRefusal
+rest-passes [] ds e = sym e
+rest-passes (check n true ∷ cs) ds e = rest-passes cs ds e
+rest-passes (check n false ∷ cs) ds e = refl
 
 -- ---- the code
 
@@ -51,12 +79,13 @@ pub record IsCode (m r : ℕ) : Type 0 where
   pub most : m ≤ 10
   pub order : r ≤ m
 
-pub code-passed : (m r : ℕ) → 0 ≡ firstRefusal (codeChecks m r) → IsCode m r
-code-passed m r e =
-    let one = passed 0 _ _ (sym e) in
+-- the exponent and the order passed, and so did the checks after them
+pub code-passed : (m r : ℕ) (cs : List Check) → firstRefusal (codeChecks m r ++ cs) ≡ 0 → IsCode m r × (firstRefusal cs ≡ 0)
+code-passed m r cs e =
+    let one = passed 0 _ _ e in
     let two = passed 0 _ _ (one .1) in
     let three = passed 1 _ _ (two .1) in
-    record { some = leb-true 1 m (one .0); most = leb-true m 10 (two .0); order = leb-true r m (three .0) }
+    (record { some = leb-true 1 m (one .0); most = leb-true m 10 (two .0); order = leb-true r m (three .0) }, three .1)
 
 module _ (m r : ℕ) where
   pub exponent-low : m < 1 → 1 ≡ firstRefusal (codeChecks m r)
@@ -68,10 +97,6 @@ module _ (m r : ℕ) where
   pub order-high : 1 ≤ m → m ≤ 10 → m < r → 2 ≡ firstRefusal (codeChecks m r)
   order-high a b l = passes _ _ _ (le-leb 1 m a) (passes _ _ _ (le-leb m 10 b) (fails _ _ _ (lt-leb r m l)))
 
--- the exponent and the order pass
-pub code-then : {m r : ℕ} → IsCode m r → (cs : List Check) {x : ℕ} → x ≡ firstRefusal cs → x ≡ firstRefusal (codeChecks m r ++ cs)
-code-then {m} {r} c cs p = passes _ _ _ (le-leb 1 m (c .some)) (passes _ _ _ (le-leb m 10 (c .most)) (passes _ _ _ (le-leb r m (c .order)) p))
-
 -- ---- the place that 8 names
 
 pub other-place : (s : List ℕ) (a : Answer) → (answerNumber a ≡ 8 → ⊥) → Named s a
@@ -79,6 +104,24 @@ other-place s a h = record { bad = λ p e. absurd (h (ap answerNumber e)) }
 
 pub named-place : {s : List ℕ} {p : ℕ} → IsBadPlace s p → Named s (Refused (BadByte p))
 named-place {s} {p} h = record { bad = λ q e. subst (IsBadPlace s) (cc) h }
+
+pub number-pos : (why : Refusal) → 0 < numberOf why
+number-pos Exponent = omega arith
+number-pos Order = omega arith
+number-pos RoundLimit = omega arith
+number-pos LeafLimit = omega arith
+number-pos InputLength = omega arith
+number-pos OutputLength = omega arith
+number-pos AreaLength = omega arith
+number-pos (BadByte p) = omega arith
+number-pos Tie = omega arith
+number-pos Flipping = omega arith
+number-pos Unsettled = omega arith
+number-pos TooManyLeaves = omega arith
+number-pos NotCodeword = omega arith
+number-pos Profile = omega arith
+number-pos Header = omega arith
+number-pos Truncated = omega arith
 
 -- ---- bytes
 
@@ -106,3 +149,24 @@ all-pass {cs} {s} e = record { number = e; place = other-place s Done (λ z. abs
 -- a refusal other than 8
 pub refuses : {cs : List Check} {s : List ℕ} (why : Refusal) → (numberOf why ≡ 8 → ⊥) → numberOf why ≡ firstRefusal cs → Checked cs s (Refused why)
 refuses {cs} {s} why h e = record { number = e; place = other-place s (Refused why) h }
+
+-- a refusal of the first group of checks, which names no place
+pub stops : {cs : List Check} (ds : List Check) (s : List ℕ) {a : Answer} {why : Refusal} → Checked cs [] a → a ≡ Refused why → Checked (cs ++ ds) s (Refused why)
+stops {cs} ds s {a} {why} c e = record {
+  number = already cs ds (number-pos why) (ap answerNumber (sym e) ∙ c .number);
+  place = record { bad = λ p q. absurd (omega (arith, c .place .bad p (e ∙ q) .within)) };
+}
+
+-- a refusal of any of the first group of checks, of the same input
+pub stops-at : {cs : List Check} (ds : List Check) {s : List ℕ} {a : Answer} {why : Refusal} → Checked cs s a → a ≡ Refused why → Checked (cs ++ ds) s (Refused why)
+stops-at {cs} ds {s} {a} {why} c e = record {
+  number = already cs ds (number-pos why) (ap answerNumber (sym e) ∙ c .number);
+  place = subst (Named s) e (c .place);
+}
+
+-- the first group of checks passes
+pub goes-on : {cs : List Check} (ds : List Check) {s₀ s : List ℕ} {a b : Answer} → Numbered cs → Checked cs s₀ a → a ≡ Done → Checked ds s b → Checked (cs ++ ds) s b
+goes-on {cs} ds t c e d = record { number = then cs ds t (ap answerNumber (sym e) ∙ c .number) (d .number); place = d .place }
+
+pub code-done : {m r : ℕ} {s : List ℕ} {a : Answer} → Checked (codeChecks m r) s a → a ≡ Done → IsCode m r
+code-done {m} {r} c e = code-passed m r [] (sym (ap answerNumber (sym e) ∙ c .number)) .0

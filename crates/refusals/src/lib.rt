@@ -1,4 +1,4 @@
-// Why a call is refused, and the checks that come before any work.
+// What calls answer, why they are refused, and the checks that come before any work.
 ghost use mathlib.Core.Path.{_≡_};
 ghost use mathlib.Core.List.{[]};
 ghost use Rattle.refusals.specs.Refusals.{numberOf, Checked, codeChecks, byteChecks};
@@ -28,6 +28,12 @@ pub enum Refusal {
 pub enum Answer {
     Done,
     Refused(Refusal),
+}
+
+// What a decoding answers, with its rounds and its leaf count.
+pub enum Decoded {
+    Accepted(usize, usize),
+    Refused(Refusal, usize, usize),
 }
 
 // The document's number of a refusal.

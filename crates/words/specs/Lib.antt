@@ -6,3 +6,8 @@ pub mod TopBit
 pub mod Xor
 pub mod SumLaws
 pub mod WordLaws
+pub mod Parts
+pub mod Butterflies
+pub mod ButterflyLaws
+pub mod Blocks
+pub mod Levels

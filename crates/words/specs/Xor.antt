@@ -40,6 +40,10 @@ min-differ z x y hz =
     (by-bits (λ (x y : ℕ). min (differ x y) 1 ≡ differ (min x 1) (min y 1)) refl refl refl refl x y)
     z hz
 
+-- of two bits it is their sum modulo 2
+pub xor-bits : (x y : ℕ) → x < 2 → y < 2 → bitXor x y ≡ (x + y) % 2
+xor-bits = by-bits (λ (x y : ℕ). bitXor x y ≡ (x + y) % 2) refl refl refl refl
+
 low-lt : (n : ℕ) → n % 2 < 2
 low-lt n = omega arith
 

@@ -1,7 +1,8 @@
 -- `refusals::check_code` meets its contract. Assumes nothing.
 use native.Mathlib.Omega.{arith}
+use borrow.Author.Tests.{le-leb}
 use Rattle.refusals.specs.declared.Refusal.the-variants.{Exponent, Order}
-use Rattle.refusals.specs.CheckLaws.{exponent-low, exponent-high, order-high, no-more, code-then, refuses, all-pass}
+use Rattle.refusals.specs.CheckLaws.{exponent-low, exponent-high, order-high, passes, no-more, refuses, all-pass}
 use Rattle.refusals.proofs.check_code.Statement.{statement}
 use Rattle.refusals.proofs.check_code.Tie as tie
 
@@ -19,7 +20,7 @@ returns-3 c =
 returns-4 : tie.Need-returns-4
 returns-4 c =
     let a = c .before .before .before .args in
-    all-pass (code-then {m = a .m} {r = a .r} (record { some = omega arith; most = omega arith; order = omega arith }) _ no-more)
+    all-pass (passes _ _ _ (le-leb 1 (a .m) (omega arith)) (passes _ _ _ (le-leb (a .m) 10 (omega arith)) (passes _ _ _ (le-leb (a .r) (a .m) (omega arith)) no-more)))
 
 pub check-code-spec : {M : Type 1} → statement M
 check-code-spec = tie.close (tie.spec returns returns-2 returns-3 returns-4)

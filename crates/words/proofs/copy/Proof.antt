@@ -33,7 +33,7 @@ loop-less c = search needs
 
 loop-again : tie.Need-loop-again Inv-loop μ-loop
 loop-again c =
-    let w = written-more 0 0 _ (c .before .before .loop .inv .3) (c .before .before .loop .i) _ (omega arith) (omega arith) refl in
+    let w = written-more (c .before .before .loop .inv .3) (c .before .before .loop .i) _ (omega arith) (omega arith) refl in
     (refl, omega arith, w .long, w)
 
 same-length : tie.Need-same-length Inv-loop μ-loop
@@ -42,7 +42,7 @@ same-length c = omega arith
 returns : tie.Need-returns Inv-loop μ-loop
 returns c =
     let a = c .before .before .args in
-    written-all 0 _ _ (a .dst .now) _ (c .before .loop .inv .3) (omega arith) ∙ tabulate-getD _ (a .src .now) 0 (omega arith)
+    written-all (c .before .loop .inv .3) (omega arith) ∙ tabulate-getD _ (a .src .now) 0 (omega arith)
 
 pub copy-spec : {M : Type 1} → statement M
 copy-spec =

@@ -1,0 +1,35 @@
+-- `code::test_in` meets its contract. Assumes nothing.
+use mathlib.Core.Path.{_≡_, sym, ap, subst, _∙_}
+use borrow.Author.Needs.{needs}
+use mathlib.Core.List.{List}
+use Prim.Native.Nat.{ℕ}
+use lib.ListN.{length}
+use Rattle.words.specs.Word.{bit, IsWord}
+use Rattle.code.specs.Code.{lowTest}
+use Rattle.code.specs.Transformed.{coefficients, coefficients-test}
+use Rattle.code.proofs.test_in.Statement.{statement}
+use Rattle.code.proofs.test_in.Tie as tie
+
+copy-requires : tie.Need-copy-requires
+copy-requires c κs = search needs
+
+transform-requires : tie.Need-transform-requires
+transform-requires c κs =
+    let s = c .before .before .before .before .before .before .before in
+    (subst (IsWord _) (sym (c .before .before .before .copy .ensures)) (s .pre .1), s .pre .0)
+
+is-low-requires : tie.Need-is-low-requires
+is-low-requires c κs = search needs
+
+same-length : tie.Need-same-length
+same-length c = search needs
+
+returns : tie.Need-returns
+returns c =
+    let s = c .before .before .before .before .before .before .before .before .before .before .before .before in
+    let t = c .before .before .before .before .transform .ensures ∙ ap (coefficients (s .args .m)) (c .before .before .before .before .before .before .before .before .copy .ensures) in
+    (c .is-low .ensures ∙ ap (λ (x : List ℕ). lowTest (s .args .r) (bit x) (length x)) t ∙ coefficients-test (s .args .m) (s .args .r) (s .args .word .now), t)
+
+pub test-in-spec : {M : Type 1} → statement M
+test-in-spec =
+    tie.close (tie.spec copy-requires transform-requires is-low-requires same-length returns)

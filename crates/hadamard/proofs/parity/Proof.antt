@@ -1,0 +1,15 @@
+-- `hadamard::parity` meets its contract. Assumes nothing.
+use Rattle.area.specs.Numbers.{byte-number}
+use native.Mathlib.Omega.{arith}
+use borrow.Author.Needs.{needs}
+use Rattle.hadamard.proofs.parity.Statement.{statement}
+use Rattle.hadamard.proofs.parity.Tie as tie
+
+cast-result : tie.Need-cast-result
+cast-result c = search needs
+
+returns : tie.Need-returns
+returns c = byte-number _ (omega arith)
+
+pub parity-spec : {M : Type 1} → statement M
+parity-spec = tie.close (tie.spec cast-result returns)

@@ -1,0 +1,98 @@
+// The fast Hadamard transform.
+ghost use mathlib.Core.Path.{_≡_};
+ghost use Prim.Native.Nat.{_+_, _^_};
+ghost use lib.ListN.{length};
+ghost use Rattle.words.specs.Sum.{tabulate};
+ghost use Rattle.words.specs.Butterflies.{butterflies, halved, Entries, Blocked, BlocksDone};
+ghost use Rattle.area.specs.Area.{at};
+ghost use Rattle.hadamard.specs.Correlation.{correlation};
+ghost use Rattle.hadamard.specs.Leaf.{Summable};
+ghost use Rattle.hadamard.specs.Transform.{sums};
+
+// The sums of two halves of h numbers, then their differences, in place.
+fn butterfly(a: &mut [i32], h: usize)
+    requires { ⌜ Entries sums (h + h) 1 (now a) ⌝ }
+    ensures { λ _. ⌜ now (a .exit) ≡ butterflies sums h (now (a .entry)) ⌝ }
+{
+    let mut i = 0;
+    while i < h {
+        let x = a[i];
+        let y = a[h + i];
+        a[i] = x + y;
+        a[h + i] = x - y;
+        i += 1;
+    }
+}
+
+// The transform of 2 numbers.
+fn two(a: &mut [i32])
+    requires { ⌜ Entries sums 2 1 (now a) ⌝ }
+    ensures { λ _. ⌜ now (a .exit) ≡ halved sums 1 (now (a .entry)) ⌝ }
+{
+    butterfly(a, 1);
+}
+
+// The transform of 4 numbers.
+fn four(a: &mut [i32])
+    requires { ⌜ Entries sums 4 2 (now a) ⌝ }
+    ensures { λ _. ⌜ now (a .exit) ≡ halved sums 2 (now (a .entry)) ⌝ }
+{
+    two(&mut a[0..2]);
+    two(&mut a[2..4]);
+    butterfly(a, 2);
+}
+
+// The transform of 8 numbers.
+fn eight(a: &mut [i32])
+    requires { ⌜ Entries sums 8 3 (now a) ⌝ }
+    ensures { λ _. ⌜ now (a .exit) ≡ halved sums 3 (now (a .entry)) ⌝ }
+{
+    four(&mut a[0..4]);
+    four(&mut a[4..8]);
+    butterfly(a, 4);
+}
+
+// The transform of each block of 8 numbers.
+fn eights(a: &mut [i32])
+    requires { ⌜ Blocked sums 8 3 (now a) ⌝ }
+    ensures { λ _. ⌜ BlocksDone (halved sums 3) 8 (length (now (a .entry))) (now (a .entry)) (now (a .exit)) ⌝ }
+{
+    let n = a.len();
+    let mut b = 0;
+    while b < n {
+        let e = b + 8;
+        eight(&mut a[b..e]);
+        b = e;
+    }
+}
+
+// The butterflies of each block of two halves of h numbers.
+fn level(a: &mut [i32], h: usize)
+    requires { ⌜ Blocked sums (h + h) 1 (now a) ⌝ }
+    ensures { λ _. ⌜ BlocksDone (butterflies sums h) (h + h) (length (now (a .entry))) (now (a .entry)) (now (a .exit)) ⌝ }
+{
+    let n = a.len();
+    let s = h + h;
+    let mut b = 0;
+    while b < n {
+        let e = b + s;
+        butterfly(&mut a[b..e], h);
+        b = e;
+    }
+}
+
+// The correlation of every mask with the values in a, in place: blocks of 8 first, then level by level.
+pub fn correlate(a: &mut [i32], m: usize)
+    requires { ⌜ Summable m (now a) ⌝ }
+    ensures { λ _. ⌜ now (a .exit) ≡ tabulate (2 ^ m) (correlation m (at (now (a .entry)))) ⌝ }
+{
+    let mut h: usize = 1;
+    if 3 <= m {
+        eights(a);
+        h = 8;
+    }
+    while h < a.len() {
+        level(a, h);
+        h = h + h;
+    }
+}

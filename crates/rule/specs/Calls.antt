@@ -1,0 +1,23 @@
+-- What a call of the decoder promises. Assumes nothing.
+use Prim.Native.Nat.{ℕ}
+use mathlib.Core.Path.{_≡_}
+use mathlib.Core.List.{List}
+use lib.IntN.{ℤ}
+use Rattle.refusals.specs.declared.Refusal.the-variants.{BadByte}
+use Rattle.refusals.specs.Refusals.{numberOf, IsBadPlace}
+use Rattle.rule.specs.Reading.{Outcome}
+use Rattle.rule.specs.Decoding.{Values, values, answerOf, outputOf, areaOf}
+use Rattle.refusals.specs.declared.Decoded.{Decoded}
+use Rattle.refusals.specs.declared.Decoded.the-variants.{Accepted, Refused}
+
+-- the values of each case of the code's answer
+abbrev pub valuesOf : Decoded → Values
+valuesOf (Accepted k l) = values 0 k l
+valuesOf (Refused why k l) = values (numberOf why) k l
+
+-- a call that the outcome o is the answer of: its answer d, the output and the area before and after
+pub record Decodes (o : Outcome) (word out out′ : List ℕ) (area area′ : List ℤ) (d : Decoded) : Type 0 where
+  pub answer : valuesOf d ≡ answerOf o
+  pub place : (p k l : ℕ) → d ≡ Refused (BadByte p) k l → IsBadPlace word p
+  pub output : out′ ≡ outputOf o out
+  pub lent : area′ ≡ areaOf o area

@@ -1,0 +1,1 @@
+// The rule of projection and vote, as definitions and theorems: specs/.

@@ -1,0 +1,45 @@
+-- What the steps of a reading ask and promise. Assumes nothing.
+use Prim.Native.Nat.{ℕ, suc, _+_, _-_}
+use mathlib.Core.Path.{_≡_}
+use mathlib.Core.Bool.{cond}
+use mathlib.Core.List.{List}
+use lib.Dec.{eqb}
+use lib.IntN.{ℤ, natAbs}
+use Rattle.words.specs.Word.{indicator}
+use Rattle.area.specs.Area.{at, Front}
+use Rattle.refusals.specs.declared.Decoded.{Decoded}
+use Rattle.refusals.specs.declared.Decoded.the-variants.{Accepted, Refused}
+use Rattle.direction.specs.Votes.{InProjection, castVote}
+use Rattle.rule.specs.Reading.{Outcome, accepted, refused, flipped}
+use Rattle.rule.specs.Decoding.{Values, values, answerOf}
+use Rattle.rule.specs.Calls.{valuesOf}
+use Rattle.steps.specs.declared.Count.{Count}
+use Rattle.steps.specs.declared.Count.the-variants.{Done, Exhausted}
+
+-- the decoded word stands in the first n numbers, where there is one
+abbrev pub Holds : ℕ → Outcome → List ℤ → Type 0
+Holds n (accepted d k l) ys = Front n d ys
+Holds n (refused e k l) ys = Unit {0}
+
+-- what a reading leaves, for the outcome o
+pub record Read (n : ℕ) (o : Outcome) (ys : List ℤ) (a : Decoded) : Type 0 where
+  pub said : valuesOf a ≡ answerOf o
+  pub word : Holds n o ys
+
+-- the count that an answer brings: none where its leaves ran out
+abbrev pub countIn : Values → Count
+countIn (values e k l) = cond (eqb e 12) Exhausted (Done l)
+
+-- direction b's vote on place p after its reading's answer
+abbrev pub voteOf : ℕ → ℕ → List ℤ → Decoded → ℕ → ℕ
+voteOf m b xs (Accepted k l) p = castVote m b xs p
+voteOf m b xs (Refused why k l) p = 0
+
+-- 1 where the votes after the word of n places flip place p, a directions abstaining
+abbrev pub flipOf : ℕ → ℕ → List ℤ → ℕ → ℕ
+flipOf n a xs p = indicator (flipped (natAbs (at xs (n + p))) (n - 1) a)
+
+-- an accepted direction has its decoded word where the projection was
+abbrev pub Voter : ℕ → Decoded → List ℤ → Type 0
+Voter m (Accepted k l) xs = InProjection m xs
+Voter m (Refused why k l) xs = Unit {0}

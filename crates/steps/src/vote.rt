@@ -1,0 +1,62 @@
+// What a direction's answer does to the votes, and the flips that end a round.
+use crate::Count;
+use refusals::Decoded;
+use refusals::Refusal;
+ghost use mathlib.Core.Path.{_≡_};
+ghost use Prim.Native.Nat.{ℕ, suc, _+_, _*_, _%_, _^_, _≤_, _<_};
+ghost use lib.ListN.{length};
+ghost use lib.Dec.{eqb};
+ghost use lib.IntN.{pos, _+ℤ_};
+ghost use Rattle.words.specs.Sum.{allBelow};
+ghost use Rattle.words.specs.Word.{bit};
+ghost use Rattle.words.specs.Written.{Written};
+ghost use Rattle.area.specs.Area.{at, Bits, wordOf};
+ghost use Rattle.direction.specs.Votes.{Projects, Tally};
+ghost use Rattle.rule.specs.Calls.{valuesOf};
+ghost use Rattle.steps.specs.Steps.{countIn, voteOf, flipOf, Voter};
+
+// The count of a direction that abstains, unless its leaves ran out.
+fn abstain(why: Refusal, leaves: usize) -> Count
+    ensures { λ r. ⌜ ((k : ℕ) → r ≡ countIn (valuesOf (Decoded.Refused why k leaves))) ⌝ }
+{
+    if let Refusal::TooManyLeaves = why {
+        Count::Exhausted
+    } else {
+        Count::Done(leaves)
+    }
+}
+
+// Direction b's votes after its reading, and its leaf count.
+pub fn cast(m: usize, b: usize, answer: Decoded, area: &mut [i32]) -> Count
+    requires { ⌜ Projects m b (now area) ⌝ }
+    requires { ⌜ Tally (2 ^ suc m) b (now area) ⌝ }
+    requires { ⌜ Voter m answer (now area) ⌝ }
+    ensures counted { λ r. ⌜ r ≡ countIn (valuesOf answer) ⌝ }
+    ensures voted { λ r. ⌜ Written (pos 0) (2 ^ suc m) (2 ^ suc m) (λ p. at (now (area .entry)) (2 ^ suc m + p) +ℤ pos (voteOf m b (now (area .entry)) answer p)) (now (area .entry)) (now (area .exit)) ⌝ }
+{
+    match answer {
+        Decoded::Accepted(_, leaves) => {
+            direction::add_votes(m, b, area);
+            Count::Done(leaves)
+        }
+        Decoded::Refused(why, _, leaves) => abstain(why, leaves),
+    }
+}
+
+// Flips each place whose votes are more than half of the n - 1 directions; whether none was.
+pub fn flip(n: usize, area: &mut [i32]) -> bool
+    requires { ⌜ (0 < n) × (n ≤ 1024) × (2 * n ≤ length (now area)) ⌝ }
+    requires { ⌜ Bits n (now area) ⌝ }
+    requires { ⌜ Tally n n (now area) ⌝ }
+    ensures settled { λ r. ⌜ ((a : ℕ) → r ≡ allBelow n (λ p. eqb (flipOf n a (now (area .entry)) p) 0)) ⌝ }
+    ensures flipped { λ r. ⌜ ((a : ℕ) → Written (pos 0) 0 n (λ p. pos ((bit (wordOf n (now (area .entry))) p + flipOf n a (now (area .entry)) p) % 2)) (now (area .entry)) (now (area .exit))) ⌝ }
+{
+    let mut settled = true;
+    for p in 0..n {
+        if n - 1 < 2 * (area[n + p] as usize) {
+            area[p] = area[p] ^ 1;
+            settled = false;
+        }
+    }
+    settled
+}
