@@ -33,6 +33,11 @@ pub bit-back : {z : ℤ} → IsBit z → toZ w32 (ofZ w32 z) ≡ z
 bit-back zero-bit = refl
 bit-back one-bit = refl
 
+-- a stored bit
+pub bit-stored : {z : ℤ} → IsBit z → ofZ w32 z ≡ natAbs z
+bit-stored zero-bit = refl
+bit-stored one-bit = refl
+
 -- exclusive or of two bits is their sum modulo 2, as it is stored
 pub xor-stored : {x y : ℤ} → IsBit x → IsBit y → bitXor (ofZ w32 x) (ofZ w32 y) ≡ ofZ w32 (pos ((natAbs x + natAbs y) % 2))
 xor-stored zero-bit zero-bit = refl

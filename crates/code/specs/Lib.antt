@@ -13,3 +13,5 @@ pub mod Dimension
 pub mod Distance
 pub mod Halves
 pub mod TransformLaws
+pub mod Numbers
+pub mod NumberLaws

@@ -1,22 +1,23 @@
 -- Sums modulo 2 by halves give the coefficient of every mask. Assumes nothing.
-use Prim.Native.Nat.{ℕ, zero, suc, _+_, _*_, _%_, _^_, _<_}
-use mathlib.Core.Path.{_≡_, refl, sym, ap, ap₂, _∙_}
+use Prim.Native.Nat.{ℕ, _+_, _%_, _^_, _<_}
+use mathlib.Core.Path.{_≡_, refl, sym, ap, _∙_}
 use mathlib.Core.List.{List}
 use native.Mathlib.Omega.{arith}
 use native.Mathlib.Nat.{add-comm}
 use lib.Bits.{bitXor}
 use lib.ListN.{length, set}
-use lib.Seq.{ext-getD}
-use Rattle.words.specs.Butterflies.{Rule, Entries, entry, halved, Roomy}
+use Rattle.words.specs.Butterflies.{Rule, Entries, entry, halved}
 use Rattle.words.specs.ButterflyLaws.{ByHalves, halved-entry, halved-entries, PairsDone, pair-room, pairs-second}
 use Rattle.words.specs.Sum.{total, tabulate}
-use Rattle.words.specs.SumLaws.{length-tabulate, bit-tabulate}
+use Rattle.words.specs.SumLaws.{bit-tabulate}
 use Rattle.words.specs.Word.{IsWord, bit}
 use Rattle.words.specs.WordLaws.{word-ext, word-tabulate, unmod}
 use Rattle.words.specs.Xor.{xor-bits}
 use Rattle.code.specs.Code.{coefficient}
 use Rattle.code.specs.Codewords.{coefficient-lt}
 use Rattle.code.specs.Degree.{coef, coef-low, coef-top, coef-plus, second}
+
+-- ---- coefficients by halves
 
 add-parities : (a b c d : ℕ) → a % 2 ≡ c → b % 2 ≡ d → (a + b) % 2 % 2 ≡ (c + d) % 2
 add-parities a b c d p q = rw (← p, ← q) (simp unmod (omega arith))
@@ -41,10 +42,12 @@ module _ {A : Type 0} (R : Rule A) (val : A → ℕ) (keep : (x y : A) → val (
       → (u : ℕ) → u < 2 ^ m → val (entry R (halved R m a) u) % 2 ≡ coef m f u
   transform-coef m a f e v b = halved-entry R coef-by-halves m a f e (λ p l. omega (arith, v p l, b p))
 
--- the words of bytes
+-- ---- bytes
+
 pub sum-bit : (x y : ℕ) → (x + y) % 2 < 2
 sum-bit x y = omega arith
 
+-- words of bytes
 unfoldable pub parities : Rule ℕ
 parities = record {
   none = 0;
@@ -69,7 +72,8 @@ halved-coefficient m w h =
     (record { size = e .size; bits = e .room .each })
     (word-tabulate m (coefficient m w) (λ u l. coefficient-lt m w u))
     (λ u l.
-    omega (arith, e .room .each u, transform-coef parities (λ x. x) (λ x y. refl) (λ x y. refl) m w (bit w) (h .size) (λ p g. refl) (h .bits) u l) ∙ sym (bit-tabulate (2 ^ m) (coefficient m w) u l))
+    omega (arith, e .room .each u, transform-coef parities (λ x. x) (λ x y. refl) (λ x y. refl) m w (bit w) (h .size) (λ p g. refl) (h .bits) u l)
+    ∙ sym (bit-tabulate (2 ^ m) (coefficient m w) u l))
 
 -- a turn of the loop over the pairs, as the code computes it
 pub pair-added :

@@ -18,6 +18,7 @@ use refusals::Answer;
 use refusals::Refusal;
 
 mod message;
+pub mod numbers;
 pub mod transform;
 
 // What the codeword test answers.

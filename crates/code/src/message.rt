@@ -7,7 +7,7 @@ ghost use Rattle.code.specs.Code;
 ghost use Rattle.code.specs.Code.{lowTest};
 
 // The number of ones in a mask.
-fn degree(a: usize) -> usize
+pub fn degree(a: usize) -> usize
     ensures { λ d. ⌜ d ≡ Rattle.code.specs.Code.degree a ⌝ }
 {
     usize::count_ones(a) as usize

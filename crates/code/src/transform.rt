@@ -15,7 +15,8 @@ fn butterfly(s: &mut [u8], h: usize)
 {
     let mut i = 0;
     while i < h {
-        s[h + i] = s[h + i] ^ s[i];
+        let j = h + i;
+        s[j] = s[j] ^ s[i];
         i += 1;
     }
 }
@@ -82,11 +83,19 @@ pub fn transform(s: &mut [u8], m: usize)
     requires { ⌜ IsWord m (now s) × (m ≤ 10) ⌝ }
     ensures { λ _. ⌜ now (s .exit) ≡ tabulate (2 ^ m) (coefficient m (now (s .entry))) ⌝ }
 {
-    let mut h: usize = 1;
-    if 3 <= m {
-        eights(s);
-        h = 8;
+    if m == 0 {
+        return;
     }
+    if m == 1 {
+        two(s);
+        return;
+    }
+    if m == 2 {
+        four(s);
+        return;
+    }
+    eights(s);
+    let mut h: usize = 8;
     while h < s.len() {
         level(s, h);
         h = h + h;

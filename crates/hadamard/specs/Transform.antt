@@ -25,6 +25,7 @@ use Rattle.words.specs.TopBit.{and-low-top, and-top-low, and-top-top, ones-top,
 abbrev pub Small : ℕ → ℤ → Type 0
 Small j x = natAbs x * 2 ^ j < 2 ^ 31
 
+-- a sum of two, of one level less
 pub join-small : (j a b c : ℕ) → c ≤ a + b → a * 2 ^ suc j < 2 ^ 31 → b * 2 ^ suc j < 2 ^ 31 → c * 2 ^ j < 2 ^ 31
 join-small j a b c l ha hb =
     let two : (a + b) * 2 ^ j + (a + b) * 2 ^ j ≡ a * 2 ^ suc j + b * 2 ^ suc j = rw (pow-double, add-mul, mul-add, mul-add) (omega arith) in
@@ -43,7 +44,9 @@ sums = record {
   room-less = λ j k x l h. omega (arith, mul-le-mul-left (natAbs x) (pow-mono l));
 }
 
--- two more terms' signs
+-- ---- correlations by halves
+
+-- one more negates
 signed-suc : (n : ℕ) (z : ℤ) → signed (suc n % 2) z ≡ negℤ (signed (n % 2) z)
 signed-suc n z = elim (decLt (n % 2) 1) [
   | yes l ↦ let a : n % 2 ≡ 0 = omega arith in let b : suc n % 2 ≡ 1 = omega arith in rw (a, b)
@@ -80,6 +83,8 @@ correlation-by-halves = record {
   high = λ m f u h x y ex ey. ap₂ _-ℤ_ ex ey ∙ sym (correlation-top m f u h);
 }
 
+-- ---- what the code takes and gives
+
 pub summable-entries : {m : ℕ} {a : List ℤ} → Summable m a → Entries sums (2 ^ m) m a
 unfolding sums
 summable-entries s = record { size = s .size; room = record { each = s .small } }
@@ -96,16 +101,16 @@ halved-correlation m a e =
 -- ---- a turn of the loop over the pairs, as the code computes it
 
 module _ {h i : ℕ} {a₀ a : List ℤ} (d : PairsDone sums h i a₀ a) (l : i < h) (e : Entries sums (h + h) 1 a₀) where
-  pub first-half : Half (at a i)
+  pub pair-first : Half (at a i)
   unfolding sums
-  first-half = record { half = omega (arith, pair-room sums d l (e .room) .0) }
+  pair-first = record { half = omega (arith, pair-room sums d l (e .room) .0) }
 
-  pub second-half : Half (at a (h + i))
+  pub pair-second : Half (at a (h + i))
   unfolding sums
-  second-half = record { half = omega (arith, pair-room sums d l (e .room) .1) }
+  pair-second = record { half = omega (arith, pair-room sums d l (e .room) .1) }
 
   pub pair-summed :
       PairsDone sums h (i + 1) a₀
       (set (set a i (stored (stored (at a i) +ℤ stored (at a (h + i))))) (h + i) (stored (stored (at a i) -ℤ stored (at a (h + i)))))
   unfolding sums
-  pair-summed = pairs-more sums d l (e .size) _ _ (sum-stored first-half second-half) (difference-stored first-half second-half)
+  pair-summed = pairs-more sums d l (e .size) _ _ (sum-stored pair-first pair-second) (difference-stored pair-first pair-second)

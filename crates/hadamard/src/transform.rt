@@ -16,10 +16,11 @@ fn butterfly(a: &mut [i32], h: usize)
 {
     let mut i = 0;
     while i < h {
+        let j = h + i;
         let x = a[i];
-        let y = a[h + i];
+        let y = a[j];
         a[i] = x + y;
-        a[h + i] = x - y;
+        a[j] = x - y;
         i += 1;
     }
 }
@@ -86,11 +87,19 @@ pub fn correlate(a: &mut [i32], m: usize)
     requires { ⌜ Summable m (now a) ⌝ }
     ensures { λ _. ⌜ now (a .exit) ≡ tabulate (2 ^ m) (correlation m (at (now (a .entry)))) ⌝ }
 {
-    let mut h: usize = 1;
-    if 3 <= m {
-        eights(a);
-        h = 8;
+    if m == 0 {
+        return;
     }
+    if m == 1 {
+        two(a);
+        return;
+    }
+    if m == 2 {
+        four(a);
+        return;
+    }
+    eights(a);
+    let mut h: usize = 8;
     while h < a.len() {
         level(a, h);
         h = h + h;

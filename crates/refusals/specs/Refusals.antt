@@ -31,6 +31,25 @@ numberOf Profile = 14
 numberOf Header = 15
 numberOf Truncated = 16
 
+-- the place that a refusal names, 0 where it names none
+abbrev pub placeOf : Refusal → ℕ
+placeOf Exponent = 0
+placeOf Order = 0
+placeOf RoundLimit = 0
+placeOf LeafLimit = 0
+placeOf InputLength = 0
+placeOf OutputLength = 0
+placeOf AreaLength = 0
+placeOf (BadByte p) = p
+placeOf Tie = 0
+placeOf Flipping = 0
+placeOf Unsettled = 0
+placeOf TooManyLeaves = 0
+placeOf NotCodeword = 0
+placeOf Profile = 0
+placeOf Header = 0
+placeOf Truncated = 0
+
 -- 0 where nothing is refused
 abbrev pub answerNumber : Answer → ℕ
 answerNumber Done = 0

@@ -1,7 +1,7 @@
 // What calls answer, why they are refused, and the checks that come before any work.
 ghost use mathlib.Core.Path.{_≡_};
 ghost use mathlib.Core.List.{[]};
-ghost use Rattle.refusals.specs.Refusals.{numberOf, Checked, codeChecks, byteChecks};
+ghost use Rattle.refusals.specs.Refusals.{numberOf, placeOf, Checked, codeChecks, byteChecks};
 
 // Document 01, "Refusals by who causes them", in the order of their numbers.
 pub enum Refusal {
@@ -57,6 +57,30 @@ pub fn number(why: Refusal) -> u8
         Refusal::Profile => 14,
         Refusal::Header => 15,
         Refusal::Truncated => 16,
+    }
+}
+
+// The place that a refusal names, 0 where it names none.
+pub fn place(why: Refusal) -> usize
+    ensures { λ p. ⌜ p ≡ placeOf why ⌝ }
+{
+    match why {
+        Refusal::BadByte(p) => p,
+        Refusal::Exponent => 0,
+        Refusal::Order => 0,
+        Refusal::RoundLimit => 0,
+        Refusal::LeafLimit => 0,
+        Refusal::InputLength => 0,
+        Refusal::OutputLength => 0,
+        Refusal::AreaLength => 0,
+        Refusal::Tie => 0,
+        Refusal::Flipping => 0,
+        Refusal::Unsettled => 0,
+        Refusal::TooManyLeaves => 0,
+        Refusal::NotCodeword => 0,
+        Refusal::Profile => 0,
+        Refusal::Header => 0,
+        Refusal::Truncated => 0,
     }
 }
 

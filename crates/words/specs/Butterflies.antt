@@ -5,6 +5,7 @@ use mathlib.Core.List.{List, _++_}
 use lib.ListN.{length, getD, take, drop}
 use Rattle.words.specs.Sum.{tabulate}
 
+-- what a transform by halves does to its entries
 pub record Rule (A : Type 0) : Type 1 where
   -- what a list reads past its end
   pub none : A

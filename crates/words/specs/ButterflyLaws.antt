@@ -51,6 +51,15 @@ module _ {A : Type 0} (R : Rule A) where
   length-halved zero a e = e
   length-halved (suc m) a e = length-butterflies (2 ^ m) _ ∙ sym (pow-double m)
 
+  -- no level leaves the list as it is
+  pub halved-zero : (a : List A) → a ≡ halved R 0 a
+  unfolding halved
+  halved-zero a = refl
+
+  -- the exponent by another name
+  pub halved-at : {m k : ℕ} (a : List A) {r : List A} → m ≡ k → r ≡ halved R k a → r ≡ halved R m a
+  halved-at a e h = rw e h
+
   -- the transform of two entries is their butterfly
   pub halved-one : (a : List A) → butterflies R 1 a ≡ halved R 1 a
   unfolding halved

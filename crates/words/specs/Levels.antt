@@ -1,12 +1,12 @@
 -- The transform by halves level by level: blocks of 2 ^ k entries transformed, then blocks of twice the size. Assumes nothing.
-use Prim.Native.Nat.{ℕ, zero, suc, _+_, _-_, _*_, _^_, _≤_, _<_}
+use Prim.Native.Nat.{ℕ, zero, suc, _+_, _-_, _*_, _/_, _^_, _≤_, _<_}
 use mathlib.Core.Path.{_≡_, refl, sym, ap, subst, _∙_}
 use mathlib.Core.Logic.{⊎-elim}
 use mathlib.Core.List.{List, _++_, append-assoc}
-use native.Mathlib.Nat.{one-mul, mul-one, suc-mul, add-mul, mul-add, eq-of-mul-eq-mul-right, eq-or-lt-of-le}
+use native.Mathlib.Nat.{one-mul, suc-mul, add-mul, mul-add, eq-of-mul-eq-mul-right, eq-or-lt-of-le}
 use native.Mathlib.Omega.{arith}
 use lib.Pow.{pow-pos, pow-add, pow-mono, pow-lt}
-use lib.ListN.{length, take, drop, length-append, length-drop, take-append-drop}
+use lib.ListN.{length, take, drop, length-append, length-drop}
 use lib.Seq.{length-take-le, take-add, take-at, drop-at, drop-drop}
 use borrow.Rule.Slice.PartMut.{putMid}
 use Rattle.words.specs.Blocks.{Keeps, block-next, blocks-more, blocks-none, one-block}
@@ -81,20 +81,6 @@ module _ {A : Type 0} (R : Rule A) where
     pub within : exponent ≤ m
     pub height : h ≡ 2 ^ exponent
     pub done : BlocksDone (halved R exponent) (2 ^ exponent) (length x) x a
-
-  -- blocks of one entry are as they were
-  single : (n : ℕ) (a : List A) → n ≡ length a → a ≡ blocks (halved R 0) 1 n a
-  unfolding blocks halved
-  single zero a e = refl
-  single (suc n) a e = sym (take-append-drop 1 a) ∙ ap (λ (z : List A). take 1 a ++ z) (single n (drop 1 a) (rw length-drop (omega arith)))
-
-  pub transformed-none : (m : ℕ) (x : List A) → Transformed m 1 x x
-  transformed-none m x = record {
-    exponent = 0;
-    within = omega arith;
-    height = refl;
-    done = record { count = length x; place = sym (mul-one (length x)); within = omega arith; size = refl; done = single (length x) x refl };
-  }
 
   module _ {m : ℕ} {x : List A} (e : Entries R (2 ^ m) m x) where
     -- blocks of 2 ^ k entries
@@ -189,8 +175,10 @@ module _ {A : Type 0} (R : Rule A) where
     keep = rw eh (halved-keeps k)
 
     -- the first half as it is lent
-    pub first-lent : {i : ℕ} → i ≡ h → Entries R h k (take i (drop 0 x))
-    first-lent ei = block-next keep halves (blocks-none (halved R k) h x) (omega (arith, whole, some)) k _ (omega arith) ei
+    pub first-lent : {i : ℕ} → i ≡ h → Entries R (2 ^ k) k (take i (drop 0 x))
+    first-lent ei =
+        let e = block-next keep halves (blocks-none (halved R k) h x) (omega (arith, whole, some)) k _ (omega arith) ei in
+        record { size = e .size ∙ eh; room = e .room }
 
     -- it came back as u
     module _ {i : ℕ} {u : List A} (ei : i ≡ h) (eu : u ≡ halved R k (take i (drop 0 x))) where
@@ -198,8 +186,10 @@ module _ {A : Type 0} (R : Rule A) where
       first-back = blocks-more keep halves (blocks-none (halved R k) h x) (omega (arith, whole, some)) h i (omega arith) ei eu
 
       -- the second half as it is lent
-      pub second-lent : {n : ℕ} → n ≡ h → Entries R h k (take n (drop h (putMid 0 i x u)))
-      second-lent en = block-next keep halves first-back (omega (arith, whole, some)) k _ (omega arith) en
+      pub second-lent : {n : ℕ} → n ≡ h → Entries R (2 ^ k) k (take n (drop h (putMid 0 i x u)))
+      second-lent en =
+          let e = block-next keep halves first-back (omega (arith, whole, some)) k _ (omega arith) en in
+          record { size = e .size ∙ eh; room = e .room }
 
       -- it came back as v
       module _ {n : ℕ} {v : List A} (en : n ≡ h) (ev : v ≡ halved R k (take n (drop h (putMid 0 i x u)))) where
@@ -236,3 +226,16 @@ module _ {A : Type 0} (R : Rule A) where
               done = er ∙ sym (one-block (butterflies R h) (h + h) both size);
             })
             (omega arith)
+
+-- the sizes that the code computes for two halves of n entries
+pub record Halving (m n : ℕ) : Type 0 where
+  pub exponent : m ≡ suc (m - 1)
+  pub height : n / 2 ≡ 2 ^ (m - 1)
+  pub first : n / 2 - 0 ≡ n / 2
+  pub second : n - n / 2 ≡ n / 2
+
+pub halving : (m n : ℕ) → (m ≡ 0 → ⊥) → n ≡ 2 ^ m → Halving m n
+halving m n some e =
+    let em : m ≡ suc (m - 1) = omega arith in
+    let two : n ≡ 2 ^ (m - 1) + 2 ^ (m - 1) = e ∙ ap (λ (k : ℕ). 2 ^ k) em ∙ pow-double (m - 1) in
+    record { exponent = em; height = omega arith; first = omega arith; second = omega arith }

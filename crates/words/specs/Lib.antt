@@ -1,4 +1,4 @@
--- Definitions: Sum, Word. What the loops promise: Written. The rest are laws.
+-- Definitions: Sum, Word, Butterflies. What the loops promise: Written. The rest are laws.
 pub mod Sum
 pub mod Word
 pub mod Written

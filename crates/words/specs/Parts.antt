@@ -27,6 +27,10 @@ module _ {A : Type 0} (d : A) (a k : ℕ) (xs : List A) (room : a + k ≤ length
         List·getD-append (take a xs) (ys ++ drop k (drop a xs)) d p (subst (λ (j : ℕ). p < j) (sym (length-take-le a xs (omega arith))) h)
         ∙ getD-take a xs p d h
 
+    pub back-part : take k (drop a (putMid a k xs ys)) ≡ ys
+    back-part =
+        ap (take k) (drop-at (take a xs) (ys ++ drop k (drop a xs)) a (length-take-le a xs (omega arith))) ∙ take-at ys (drop k (drop a xs)) k same
+
     pub back-within : (q : ℕ) → q < k → getD (putMid a k xs ys) (a + q) d ≡ getD ys q d
     back-within q h =
         subst (λ (j : ℕ). getD (take a xs ++ (ys ++ drop k (drop a xs))) (j + q) d ≡ getD (ys ++ drop k (drop a xs)) q d) (length-take-le a xs (omega arith))

@@ -16,17 +16,14 @@ abbrev μ-loop : tie.MeasureT-loop
 loop-holds : tie.Need-loop-holds Inv-loop μ-loop
 loop-holds c = (omega arith, pairs-none _ _ _)
 
-add-s : tie.Need-add-s Inv-loop μ-loop
-add-s c = search needs
+add-j : tie.Need-add-j Inv-loop μ-loop
+add-j c = search needs
 
 slice-read-s : tie.Need-slice-read-s Inv-loop μ-loop
 slice-read-s c = search needs
 
 slice-read-s-2 : tie.Need-slice-read-s-2 Inv-loop μ-loop
 slice-read-s-2 c = search needs
-
-add-s-2 : tie.Need-add-s-2 Inv-loop μ-loop
-add-s-2 c = search needs
 
 slice-write-s : tie.Need-slice-write-s Inv-loop μ-loop
 slice-write-s c = search needs
@@ -53,10 +50,9 @@ butterfly-spec =
     Inv-loop
     μ-loop
     loop-holds
-    add-s
+    add-j
     slice-read-s
     slice-read-s-2
-    add-s-2
     slice-write-s
     add-i
     loop-less

@@ -6,7 +6,7 @@ use borrow.Author.Needs.{needs}
 use Rattle.words.specs.ButterflyLaws.{PairsDone, pairs-none, pairs-all}
 use Rattle.area.specs.Area.{at}
 use Rattle.area.specs.Numbers.{Half, sum-fits, difference-fits}
-use Rattle.hadamard.specs.Transform.{sums, first-half, second-half, pair-summed}
+use Rattle.hadamard.specs.Transform.{sums, pair-first, pair-second, pair-summed}
 use Rattle.hadamard.proofs.transform.butterfly.Statement.{statement}
 use Rattle.hadamard.proofs.transform.butterfly.Tie as tie
 use Rattle.hadamard.proofs.transform.butterfly.Reads as reads
@@ -21,14 +21,14 @@ abbrev μ-loop : tie.MeasureT-loop
 loop-holds : tie.Need-loop-holds Inv-loop μ-loop
 loop-holds c = (omega arith, pairs-none _ _ _)
 
+add-j : tie.Need-add-j Inv-loop μ-loop
+add-j c = search needs
+
 mul-x : tie.Need-mul-x Inv-loop μ-loop
 mul-x c = search needs
 
 slice-copy-out-x : tie.Need-slice-copy-out-x Inv-loop μ-loop
 slice-copy-out-x c = search needs
-
-add-y : tie.Need-add-y Inv-loop μ-loop
-add-y c = search needs
 
 mul-y : tie.Need-mul-y Inv-loop μ-loop
 mul-y c = search needs
@@ -37,12 +37,12 @@ slice-copy-out-y : tie.Need-slice-copy-out-y Inv-loop μ-loop
 slice-copy-out-y c = search needs
 
 first : (c : tie.After-y Inv-loop μ-loop) → Half (at (c .before .before .before .loop .a) (c .before .before .before .loop .i))
-first c = first-half (c .before .before .before .loop .inv .1) (omega arith) (c .before .before .before .before .pre)
+first c = pair-first (c .before .before .before .loop .inv .1) (omega arith) (c .before .before .before .before .pre)
 
 second :
     (c : tie.After-y Inv-loop μ-loop)
     → Half (at (c .before .before .before .loop .a) (c .before .before .before .before .args .h + c .before .before .before .loop .i))
-second c = second-half (c .before .before .before .loop .inv .1) (omega arith) (c .before .before .before .before .pre)
+second c = pair-second (c .before .before .before .loop .inv .1) (omega arith) (c .before .before .before .before .pre)
 
 add-a : tie.Need-add-a Inv-loop μ-loop
 add-a c = sum-fits (first c) (second c)
@@ -56,11 +56,8 @@ slice-set-from-a c = search needs
 sub-a : tie.Need-sub-a Inv-loop μ-loop
 sub-a c = difference-fits (first c) (second c)
 
-add-t10 : tie.Need-add-t10 Inv-loop μ-loop
-add-t10 c = search needs
-
-mul-t7 : tie.Need-mul-t7 Inv-loop μ-loop
-mul-t7 c = search needs
+mul-t8 : tie.Need-mul-t8 Inv-loop μ-loop
+mul-t8 c = search needs
 
 slice-set-from-a-2 : tie.Need-slice-set-from-a-2 Inv-loop μ-loop
 slice-set-from-a-2 c = simp length-set (omega arith)
@@ -87,17 +84,16 @@ butterfly-spec =
     Inv-loop
     μ-loop
     loop-holds
+    add-j
     mul-x
     slice-copy-out-x
-    add-y
     mul-y
     slice-copy-out-y
     add-a
     mul-a
     slice-set-from-a
     sub-a
-    add-t10
-    mul-t7
+    mul-t8
     slice-set-from-a-2
     add-i
     loop-less

@@ -1,70 +1,88 @@
 -- `hadamard::transform::correlate` meets its contract: each level transforms blocks of twice the size. Assumes nothing.
 use Prim.Native.Nat.{_-_, _^_}
-use mathlib.Core.List.{List}
 use mathlib.Core.Path.{_∙_}
-use mathlib.Core.Logic.{⊎-elim}
+use mathlib.Core.List.{List}
 use native.Mathlib.Omega.{arith}
 use lib.IntN.{ℤ}
 use Rattle.words.specs.Butterflies.{Entries}
-use Rattle.words.specs.Levels.{Transformed, whole-blocks, transformed-none, transformed-blocks, transformed-length, transformed-all, next-level, level-done}
+use Rattle.words.specs.ButterflyLaws.{halved-zero, halved-at}
+use Rattle.words.specs.Levels.{Transformed, whole-blocks, transformed-blocks, transformed-length, transformed-all, next-level, level-done}
 use Rattle.hadamard.specs.Transform.{sums, summable-entries, halved-correlation}
 use Rattle.hadamard.proofs.transform.correlate.Statement.{statement}
 use Rattle.hadamard.proofs.transform.correlate.Tie as tie
 
 abbrev Inv-loop : tie.InvT-loop
-Inv-loop a₀ m h₀ a h = (x : List ℤ) → Entries sums (2 ^ m) m x → Transformed sums m h₀ x a₀ → Transformed sums m h x a
+Inv-loop a₀ m h₀ a h = (x : List ℤ) → Entries sums (2 ^ m) m x → Transformed sums m 8 x a₀ → Transformed sums m h x a
 
 abbrev μ-loop : tie.MeasureT-loop
 μ-loop a₀ m h₀ a h = 2 ^ m - h
 
+returns : tie.Need-returns Inv-loop μ-loop
+returns c = halved-at sums _ (c .if1 .taken) (halved-zero sums _) ∙ halved-correlation _ _ (c .before .pre .size)
+
+two-requires : tie.Need-two-requires Inv-loop μ-loop
+two-requires c κs = rw (c .before .if2 .taken) at (summable-entries (c .before .before .before .pre))
+
+same-length : tie.Need-same-length Inv-loop μ-loop
+same-length c = c .before .two .kept .0
+
+returns-2 : tie.Need-returns-2 Inv-loop μ-loop
+returns-2 c =
+    halved-at sums _ (c .before .before .before .if2 .taken) (c .before .two .ensures)
+    ∙ halved-correlation _ _ (c .before .before .before .before .before .pre .size)
+
+four-requires : tie.Need-four-requires Inv-loop μ-loop
+four-requires c κs = rw (c .before .if3 .taken) at (summable-entries (c .before .before .before .before .pre))
+
+same-length-2 : tie.Need-same-length-2 Inv-loop μ-loop
+same-length-2 c = c .before .four .kept .0
+
+returns-3 : tie.Need-returns-3 Inv-loop μ-loop
+returns-3 c =
+    halved-at sums _ (c .before .before .before .if3 .taken) (c .before .four .ensures)
+    ∙ halved-correlation _ _ (c .before .before .before .before .before .before .pre .size)
+
 eights-requires : tie.Need-eights-requires Inv-loop μ-loop
-eights-requires c κs = whole-blocks sums (summable-entries (c .before .before .pre)) 3 3 (omega arith) (omega arith)
+eights-requires c κs = whole-blocks sums (summable-entries (c .before .before .before .before .pre)) 3 3 (omega arith) (omega arith)
 
 loop-holds : tie.Need-loop-holds Inv-loop μ-loop
 loop-holds c = λ x e t. t
 
-start :
-    (c : tie.Joined1 Inv-loop μ-loop)
-    → Transformed sums (c .before .args .m) (c .if1 .h) (c .before .args .a .now) (c .if1 .a)
-start c =
-    ⊎-elim
-    (λ w. rw (w .4, w .5) (transformed-blocks sums (summable-entries (c .before .pre)) 3 (omega arith) (w .2 .ensures)))
-    (λ w. rw (w .1, w .2) (transformed-none sums (c .before .args .m) (c .before .args .a .now)))
-    (c .if1 .came)
-
 -- the loop's list, of the function's own argument
 far :
     (c : tie.At-loop Inv-loop μ-loop)
-    → Transformed sums (c .before .before .args .m) (c .loop .h) (c .before .before .args .a .now) (c .loop .a)
-far c = c .loop .inv _ (summable-entries (c .before .before .pre)) (start (c .before))
+    → Transformed sums (c .before .before .before .before .before .before .before .args .m) (c .loop .h) (c .before .before .before .before .before .before .before .args .a .now) (c .loop .a)
+far c =
+    let e = summable-entries (c .before .before .before .before .before .before .before .pre) in
+    c .loop .inv _ e (transformed-blocks sums e 3 (omega arith) (c .before .before .eights .ensures))
 
 level-requires : tie.Need-level-requires Inv-loop μ-loop
-level-requires c κs = next-level sums (summable-entries (c .before .before .before .before .pre)) (far (c .before .before)) (omega arith)
+level-requires c κs = next-level sums (summable-entries (c .before .before .before .before .before .before .before .before .before .pre)) (far (c .before .before)) (omega arith)
 
 add-h : tie.Need-add-h Inv-loop μ-loop
 add-h c =
-    let e = summable-entries (c .before .before .before .before .before .before .before .pre) in
-    let t = far (c .before .before .before .before .before) in
-    omega (arith, next-level sums e t (omega arith) .fits, transformed-length sums e t, e .size, c .before .before .before .before .before .before .before .good .0 .0)
+    let e = summable-entries (c .before .before .before .before .before .before .before .before .before .before .before .pre) in
+    let t = far (c .before .before .before .before) in
+    omega (arith, next-level sums e t (omega arith) .fits, transformed-length sums e t, e .size, c .before .before .before .before .before .before .before .before .before .before .before .good .0 .0)
 
 loop-less : tie.Need-loop-less Inv-loop μ-loop
 loop-less c =
-    let e = summable-entries (c .before .before .before .before .before .before .before .pre) in
-    let t = far (c .before .before .before .before .before) in
+    let e = summable-entries (c .before .before .before .before .before .before .before .before .before .before .before .pre) in
+    let t = far (c .before .before .before .before) in
     omega (arith, next-level sums e t (omega arith) .some, transformed-length sums e t)
 
 loop-again : tie.Need-loop-again Inv-loop μ-loop
-loop-again c = λ x e t. level-done sums e (c .before .before .before .before .before .loop .inv x e t) (omega arith) (c .before .before .level .ensures)
+loop-again c = λ x e t. level-done sums e (c .before .before .before .before .loop .inv x e t) (omega arith) (c .before .level .ensures)
 
-same-length : tie.Need-same-length Inv-loop μ-loop
-same-length c =
-    let e = summable-entries (c .before .before .before .pre) in
+same-length-3 : tie.Need-same-length-3 Inv-loop μ-loop
+same-length-3 c =
+    let e = summable-entries (c .before .before .before .before .before .before .before .before .pre) in
     omega (arith, transformed-length sums e (far (c .before)), e .size)
 
-returns : tie.Need-returns Inv-loop μ-loop
-returns c =
-    let e = summable-entries (c .before .before .before .pre) in
-    transformed-all sums e (far (c .before)) (omega arith) ∙ halved-correlation _ _ (e .size)
+returns-4 : tie.Need-returns-4 Inv-loop μ-loop
+returns-4 c =
+    let h = c .before .before .before .before .before .before .before .before .pre in
+    transformed-all sums (summable-entries h) (far (c .before)) (omega arith) ∙ halved-correlation _ _ (h .size)
 
 pub correlate-spec : {M : Type 1} → statement M
 correlate-spec =
@@ -72,11 +90,18 @@ correlate-spec =
     (tie.spec
     Inv-loop
     μ-loop
+    returns
+    two-requires
+    same-length
+    returns-2
+    four-requires
+    same-length-2
+    returns-3
     eights-requires
     loop-holds
     level-requires
     add-h
     loop-less
     loop-again
-    same-length
-    returns)
+    same-length-3
+    returns-4)

@@ -1,0 +1,2 @@
+-- Definitions: Alike.
+pub mod Alike

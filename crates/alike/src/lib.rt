@@ -1,0 +1,53 @@
+// Two calls of the decoder, which answer alike on words that differ by a codeword: document 01, demand 3.
+ghost use Rattle.profiles.specs.Profiles.{profileOf};
+ghost use Rattle.alike.specs.Alike.{Differ, Fit, Alike};
+use refusals::Decoded;
+
+// What the two calls answer.
+pub struct Both {
+    pub first: Decoded,
+    pub second: Decoded,
+}
+
+// Decodes two blocks under the same limits.
+pub fn decode_both(
+    m: usize,
+    r: usize,
+    rounds: usize,
+    leaves: usize,
+    word1: &[u8],
+    word2: &[u8],
+    out1: &mut [u8],
+    out2: &mut [u8],
+    area1: &mut [i32],
+    area2: &mut [i32],
+) -> Both
+    ensures { λ b. ⌜ (Differ m r (now (word1 .entry)) (now (word2 .entry)) → Fit m (now (out1 .entry)) (now (area1 .entry)) → Fit m (now (out2 .entry)) (now (area2 .entry)) → Alike (now (word1 .entry)) (now (word2 .entry)) (now (out1 .exit)) (now (out2 .exit)) (b .first) (b .second)) ⌝ }
+{
+    let first = decoder::decode(m, r, rounds, leaves, word1, out1, area1);
+    let second = decoder::decode(m, r, rounds, leaves, word2, out2, area2);
+    Both {
+        first: first,
+        second: second,
+    }
+}
+
+// Decodes two blocks under the limits of the same profile.
+pub fn decode_profile_both(
+    profile: usize,
+    word1: &[u8],
+    word2: &[u8],
+    out1: &mut [u8],
+    out2: &mut [u8],
+    area1: &mut [i32],
+    area2: &mut [i32],
+) -> Both
+    ensures { λ b. ⌜ (Differ (profileOf profile .m) (profileOf profile .r) (now (word1 .entry)) (now (word2 .entry)) → Fit (profileOf profile .m) (now (out1 .entry)) (now (area1 .entry)) → Fit (profileOf profile .m) (now (out2 .entry)) (now (area2 .entry)) → Alike (now (word1 .entry)) (now (word2 .entry)) (now (out1 .exit)) (now (out2 .exit)) (b .first) (b .second)) ⌝ }
+{
+    let first = decoder::decode_profile(profile, word1, out1, area1);
+    let second = decoder::decode_profile(profile, word2, out2, area2);
+    Both {
+        first: first,
+        second: second,
+    }
+}

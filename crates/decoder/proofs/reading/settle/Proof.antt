@@ -1,0 +1,37 @@
+-- `decoder::reading::settle` meets its contract. Assumes nothing.
+use borrow.Author.Needs.{needs}
+use Prim.Native.Nat.{ℕ}
+use mathlib.Core.Path.{sym, ap, _∙_}
+use mathlib.Core.Bool.{Bool, cond}
+use Rattle.refusals.specs.declared.Refusal.the-variants.{Unsettled}
+use Rattle.refusals.specs.declared.Decoded.{Decoded}
+use Rattle.refusals.specs.declared.Decoded.the-variants.{Accepted, Refused}
+use Rattle.decoder.proofs.reading.settle.Statement.{statement}
+use Rattle.decoder.proofs.reading.settle.Tie as tie
+
+-- the answer by the test
+abbrev answer : ℕ → ℕ → Bool → Decoded
+answer k used t = cond t (Accepted k used) (Refused Unsettled k used)
+
+holds-codeword-requires : tie.Need-holds-codeword-requires
+holds-codeword-requires c κs = search needs
+
+same-length : tie.Need-same-length
+same-length c = search needs
+
+returns : tie.Need-returns
+returns c =
+    let t = c .before .before .holds-codeword .ensures in
+    (ap (answer _ _) (sym (c .if1 .taken) ∙ t .answer), t .kept)
+
+same-length-2 : tie.Need-same-length-2
+same-length-2 c = search needs
+
+returns-2 : tie.Need-returns-2
+returns-2 c =
+    let t = c .before .before .holds-codeword .ensures in
+    (ap (answer _ _) (sym (c .if1 .left) ∙ t .answer), t .kept)
+
+pub settle-spec : {M : Type 1} → statement M
+settle-spec =
+    tie.close (tie.spec holds-codeword-requires same-length returns same-length-2 returns-2)

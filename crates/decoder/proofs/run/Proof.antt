@@ -1,0 +1,58 @@
+-- `decoder::run` meets its contract. Assumes nothing.
+use borrow.Author.Needs.{needs}
+use Rattle.decoder.proofs.Whole.{loaded-ready, read-delivers, read-decodes}
+use Rattle.decoder.proofs.run.Statement.{statement}
+use Rattle.decoder.proofs.run.Tie as tie
+
+load-requires : tie.Need-load-requires
+load-requires c κs = search needs
+
+reading-requires : tie.Need-reading-requires
+reading-requires c κs =
+    let s = c .before .before .before .before .before .before in
+    loaded-ready (record { runs = s .pre; loaded = c .before .before .load .ensures })
+
+deliver-requires : tie.Need-deliver-requires
+deliver-requires c κs =
+    let r = c .before .before .before in
+    let l = r .before .before .before in
+    read-delivers
+    (record {
+      loads = record { runs = l .before .before .before .before .pre; loaded = l .load .ensures };
+      same = r .reading .kept .1 .1 .1 .1 .0;
+      read = r .reading .ensures;
+    })
+
+fill-requires : tie.Need-fill-requires
+fill-requires c κs = search needs
+
+same-length : tie.Need-same-length
+same-length c = search needs
+
+same-length-2 : tie.Need-same-length-2
+same-length-2 c = search needs
+
+returns : tie.Need-returns
+returns c =
+    let v = c .before .before .before .before .before in
+    let r = v .before .before .before .before in
+    let l = r .before .before .before in
+    read-decodes
+    (record {
+      loads = record { runs = l .before .before .before .before .pre; loaded = l .load .ensures };
+      same = r .reading .kept .1 .1 .1 .1 .0;
+      read = r .reading .ensures;
+    })
+    (v .deliver .ensures) (c .before .fill .ensures)
+
+pub run-spec : {M : Type 1} → statement M
+run-spec =
+    tie.close
+    (tie.spec
+    load-requires
+    reading-requires
+    deliver-requires
+    fill-requires
+    same-length
+    same-length-2
+    returns)

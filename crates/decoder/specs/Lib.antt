@@ -1,0 +1,2 @@
+-- What the decoder's functions ask and promise: Readings.
+pub mod Readings

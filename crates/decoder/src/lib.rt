@@ -1,0 +1,83 @@
+// The decoder: readings by projection and vote, in a lent area of numbers.
+ghost use mathlib.Core.Path.{_≡_};
+ghost use lib.ListN.{length};
+ghost use Rattle.refusals.specs.Refusals.{Checked};
+ghost use Rattle.rule.specs.Reading;
+ghost use Rattle.rule.specs.Decoding.{limited, decodeCall, decodeProfileCall};
+ghost use Rattle.rule.specs.Calls.{Decodes};
+ghost use Rattle.decoder.specs.Readings.{Runs, Deliverable, delivered};
+use reading::reading;
+use refusals::Answer;
+use refusals::Decoded;
+use refusals::Refusal;
+
+mod checks;
+mod reading;
+
+// The decoded word, where there is one, to the output.
+fn deliver(answer: Decoded, area: &[i32], out: &mut [u8])
+    requires { ⌜ Deliverable (length (now out)) answer (now area) ⌝ }
+    ensures { λ _. ⌜ now (out .exit) ≡ delivered answer (now (out .entry)) (now (area .entry)) ⌝ }
+{
+    match answer {
+        Decoded::Accepted(_, _) => {
+            area::store(area, out);
+        }
+        Decoded::Refused(_, _, _) => {}
+    }
+}
+
+// A call that passed its checks.
+fn run(
+    m: usize,
+    r: usize,
+    rounds: usize,
+    leaves: usize,
+    word: &[u8],
+    out: &mut [u8],
+    area: &mut [i32],
+) -> Decoded
+    requires { ⌜ Runs m r rounds leaves (now word) (now out) (now area) ⌝ }
+    ensures { λ d. ⌜ Decodes (limited leaves (Rattle.rule.specs.Reading.reading r m rounds (now (word .entry)))) (now (word .entry)) (now (out .entry)) (now (out .exit)) (now (area .entry)) (now (area .exit)) d ⌝ }
+{
+    area::load(word, area);
+    let answer = reading(m, r, rounds, leaves, area);
+    deliver(answer, area, out);
+    area::fill(area, 0);
+    answer
+}
+
+// Decodes a block under the limits given.
+pub fn decode(
+    m: usize,
+    r: usize,
+    rounds: usize,
+    leaves: usize,
+    word: &[u8],
+    out: &mut [u8],
+    area: &mut [i32],
+) -> Decoded
+    ensures { λ d. ⌜ Decodes (decodeCall m r rounds leaves (now (word .entry)) (length (now (out .entry))) (length (now (area .entry)))) (now (word .entry)) (now (out .entry)) (now (out .exit)) (now (area .entry)) (now (area .exit)) d ⌝ }
+{
+    let checked = checks::call(m, r, rounds, leaves, word, out.len(), area.len());
+    match checked {
+        Answer::Refused(why) => Decoded::Refused(why, 0, 0),
+        Answer::Done => run(m, r, rounds, leaves, word, out, area),
+    }
+}
+
+// Decodes a block under the limits of a profile.
+pub fn decode_profile(profile: usize, word: &[u8], out: &mut [u8], area: &mut [i32]) -> Decoded
+    ensures { λ d. ⌜ Decodes (decodeProfileCall profile (now (word .entry)) (length (now (out .entry))) (length (now (area .entry)))) (now (word .entry)) (now (out .entry)) (now (out .exit)) (now (area .entry)) (now (area .exit)) d ⌝ }
+{
+    if 4 < profile {
+        return Decoded::Refused(Refusal::Profile, 0, 0);
+    }
+    let p = profiles::by_number(profile);
+    let m = p.m;
+    let checked = checks::buffers(m, word, out.len(), area.len());
+    match checked {
+        Answer::Refused(why) => Decoded::Refused(why, 0, 0),
+        Answer::Done => run(m, p.r, p.rounds, p.leaves, word, out, area),
+    }
+}

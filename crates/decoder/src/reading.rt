@@ -1,0 +1,92 @@
+// Readings and rounds, each starting the other, the order falling.
+// A reading at exponent m has its word in the first 2^m numbers of its area; above order 1 the next 2^m are votes, and what is left is
+// lent to the readings one order lower.
+use refusals::Decoded;
+use refusals::Refusal;
+use steps::Count;
+use steps::leaf::first_order;
+use steps::leaf::zero_order;
+use steps::vote::cast;
+use steps::vote::flip;
+ghost use mathlib.Core.Path.{_≡_};
+ghost use mathlib.Core.Bool.{cond};
+ghost use Prim.Native.Nat.{ℕ, suc, _+_, _*_, _^_, _≤_, _<_};
+ghost use lib.ListN.{length};
+ghost use Rattle.code.specs.Code.{codewordTest};
+ghost use Rattle.area.specs.Area.{Bits, SameFront, wordOf};
+ghost use Rattle.rule.specs.Reading;
+ghost use Rattle.rule.specs.Decoding.{limited};
+ghost use Rattle.steps.specs.Steps.{Read};
+ghost use Rattle.decoder.specs.Readings.{Ready, Voted};
+
+// The answer for a word that no round changes.
+fn settle(m: usize, r: usize, k: usize, used: usize, area: &mut [i32]) -> Decoded
+    requires { ⌜ (m ≤ 10) × (2 * 2 ^ m ≤ length (now area)) × Bits (2 ^ m) (now area) ⌝ }
+    ensures tested { λ a. ⌜ a ≡ cond (codewordTest m r (wordOf (2 ^ m) (now (area .entry)))) (Decoded.Accepted k used) (Decoded.Refused Refusal.Unsettled k used) ⌝ }
+    ensures kept { λ a. ⌜ SameFront (2 ^ m) (now (area .entry)) (now (area .exit)) ⌝ }
+{
+    if code::numbers::holds_codeword(m, r, area) {
+        Decoded::Accepted(k, used)
+    } else {
+        Decoded::Refused(Refusal::Unsettled, k, used)
+    }
+}
+
+// The reading of the word in the front of the area, with at most `left` leaves.
+pub fn reading(m: usize, r: usize, rounds: usize, left: usize, area: &mut [i32]) -> Decoded
+    requires { ⌜ Ready m r left (now area) ⌝ }
+    ensures { λ a. ⌜ Read (2 ^ m) (limited left (Rattle.rule.specs.Reading.reading r m rounds (wordOf (2 ^ m) (now (area .entry))))) (now (area .exit)) a ⌝ }
+{
+    if r == 0 {
+        return zero_order(m, area);
+    }
+    if r == 1 {
+        if left == 0 {
+            return Decoded::Refused(Refusal::TooManyLeaves, 0, left);
+        }
+        return first_order(m, area);
+    }
+    let n = words::size(m);
+    let mut k = 0;
+    let mut used = 0;
+    while k < rounds {
+        match round(m - 1, r - 1, rounds, left - used, area) {
+            Count::Exhausted => {
+                return Decoded::Refused(Refusal::TooManyLeaves, 0, left);
+            }
+            Count::Done(leaves) => {
+                used += leaves;
+            }
+        }
+        k += 1;
+        if flip(n, area) {
+            return settle(m, r, k, used, area);
+        }
+    }
+    Decoded::Refused(Refusal::Flipping, k, used)
+}
+
+// A round of the word of exponent m + 1 in the front of the area: every direction's votes, by readings at exponent m and order r.
+fn round(m: usize, r: usize, rounds: usize, left: usize, area: &mut [i32]) -> Count
+    requires { ⌜ Ready (suc m) (suc r) left (now area) ⌝ }
+    requires { ⌜ 1 ≤ r ⌝ }
+    ensures { λ k. ⌜ Voted m left (Rattle.rule.specs.Reading.reading r m rounds) (now (area .entry)) (now (area .exit)) k ⌝ }
+{
+    let n = 2 * words::size(m);
+    let rest = 2 * n;
+    area::fill(&mut area[n..rest], 0);
+    let mut used = 0;
+    for i in 0..n - 1 {
+        direction::project(m, i + 1, area);
+        let answer = reading(m, r, rounds, left - used, &mut area[rest..]);
+        match cast(m, i + 1, answer, area) {
+            Count::Exhausted => {
+                return Count::Exhausted;
+            }
+            Count::Done(leaves) => {
+                used += leaves;
+            }
+        }
+    }
+    Count::Done(used)
+}
