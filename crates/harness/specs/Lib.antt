@@ -1,0 +1,2 @@
+-- Definitions: Packing.
+pub mod Packing

@@ -1,0 +1,36 @@
+//! An answer and its 64 bits.
+
+/// Lowest first: refusal or 0 in 8 bits, rounds in 8, leaf count in 24, mended places in 12, the place of 8 in 12.
+#[derive(Clone, Copy, PartialEq, Eq, Debug, Default)]
+pub struct Answer {
+    pub refusal: u8,
+    pub rounds: u8,
+    pub leaves: u32,
+    pub mended: u16,
+    pub place: u16,
+}
+
+impl Answer {
+    pub fn unpacked(bits: u64) -> Answer {
+        let field = |first: u32, width: u32| bits >> first & ((1 << width) - 1);
+        Answer {
+            refusal: field(0, 8) as u8,
+            rounds: field(8, 8) as u8,
+            leaves: field(16, 24) as u32,
+            mended: field(40, 12) as u16,
+            place: field(52, 12) as u16,
+        }
+    }
+}
+
+#[cfg(test)]
+mod tests {
+    use super::Answer;
+
+    #[test]
+    fn each_field_by_itself() {
+        let bits = 12 | 5 << 8 | 1_000_000 << 16 | 1_024 << 40 | 1_023 << 52;
+        let answer = Answer { refusal: 12, rounds: 5, leaves: 1_000_000, mended: 1_024, place: 1_023 };
+        assert_eq!(Answer::unpacked(bits), answer);
+    }
+}

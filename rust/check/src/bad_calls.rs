@@ -1,0 +1,141 @@
+//! Calls with arguments outside their ranges, alone and together, so that the order of the checks shows.
+
+use crate::call::Call;
+use crate::compare::{Comparison, Disagreement};
+use crate::random::Random;
+use second::message_bits;
+use second::profiles;
+
+/// Arguments by chance; each is bad one time in `rarity`.
+struct Chooser {
+    random: Random,
+    rarity: usize,
+}
+
+impl Chooser {
+    fn number(&mut self, good: usize, bad: &[usize]) -> usize {
+        if self.random.once_in(self.rarity) {
+            return self.random.one_of(bad);
+        }
+        good
+    }
+
+    fn exponent(&mut self) -> usize {
+        let good = 1 + self.random.below(5);
+        self.number(good, &[0, 11, 12, 32, 63, 64, 65, 1 << 32, (1 << 32) + 2, usize::MAX])
+    }
+
+    fn order(&mut self, m: usize) -> usize {
+        let good = self.random.below(m.min(10) + 1);
+        self.number(good, &[m.wrapping_add(1), 11, 64, 1 << 32, usize::MAX])
+    }
+
+    fn rounds(&mut self) -> usize {
+        let good = 1 + self.random.below(16);
+        self.number(good, &[0, 17, 256, 1 << 32, (1 << 32) + 1, usize::MAX])
+    }
+
+    fn leaves(&mut self) -> usize {
+        let good = self.random.one_of(&[1, 3, 7, 15, 100, 1_000_000]);
+        self.number(good, &[0, 1_000_001, 1 << 32, (1 << 32) + 1, usize::MAX])
+    }
+
+    fn length(&mut self, right: usize) -> usize {
+        self.number(right, &[right - 1, right + 1, 0, 2 * right])
+    }
+
+    fn area(&mut self, n: usize) -> usize {
+        let good = 8 * n + self.random.below(9);
+        self.number(good, &[8 * n - 1, 7 * n, 0])
+    }
+
+    /// Bits of that length; bad ones have a few bytes above 1.
+    fn bytes(&mut self, length: usize) -> Vec<u8> {
+        let mut bytes = self.random.bits(length);
+        if length > 0 && self.random.once_in(self.rarity) {
+            for _ in 0..1 + self.random.below(3) {
+                let place = self.random.below(length);
+                bytes[place] = self.random.one_of(&[2, 3, 4, 16, 128, 254, 255]);
+            }
+        }
+        bytes
+    }
+
+    /// Exponent, order, and the two sizes that fit them.
+    fn code(&mut self) -> (usize, usize, usize, usize) {
+        let m = self.exponent();
+        let r = self.order(m);
+        let size = m.clamp(1, 5);
+        (m, r, 1 << size, message_bits(size, r.min(size)))
+    }
+
+    fn bytes_of(&mut self, right: usize) -> Vec<u8> {
+        let length = self.length(right);
+        self.bytes(length)
+    }
+
+    fn code_call(&mut self, which: usize) -> Call {
+        let (m, r, n, k) = self.code();
+        match which {
+            0 => Call::Encode { m, r, message: self.bytes_of(k), out: self.length(n) },
+            1 => Call::ReadMessage { m, r, word: self.bytes_of(n), out: self.length(k) },
+            _ => Call::IsCodeword { m, r, word: self.bytes_of(n) },
+        }
+    }
+
+    fn decode_call(&mut self) -> Call {
+        let (m, r, n, _) = self.code();
+        let (rounds, leaves) = (self.rounds(), self.leaves());
+        Call::Decode { m, r, rounds, leaves, word: self.bytes_of(n), out: self.length(n), area: self.area(n) }
+    }
+
+    fn profile_call(&mut self) -> Call {
+        let good = self.random.below(4);
+        let profile = self.number(good, &[5, 6, 8, 255, 256, 260, 1 << 32, usize::MAX]);
+        let n = 1 << profiles::profile(profile).map_or(5, |p| p.m);
+        Call::DecodeProfile { profile, word: self.bytes_of(n), out: self.length(n), area: self.area(n) }
+    }
+}
+
+pub fn many(c: &mut Comparison, seed: u64, calls: usize) -> Result<(), Disagreement> {
+    for rarity in [3, 8] {
+        let mut chooser = Chooser { random: Random::new(seed + rarity as u64), rarity };
+        for i in 0..calls {
+            let call = match i % 8 {
+                which @ 0..=2 => chooser.code_call(which),
+                3 => chooser.profile_call(),
+                _ => chooser.decode_call(),
+            };
+            c.call(&call)?;
+        }
+    }
+    Ok(())
+}
+
+/// One bad byte at each place of the input, at every exponent.
+pub fn each_bad_byte(c: &mut Comparison, m: usize) -> Result<(), Disagreement> {
+    let n = 1usize << m;
+    let step = (n / 64).max(1);
+    for place in (0..n).step_by(step).chain([n - 1]) {
+        let mut word = vec![0; n];
+        word[place] = 2;
+        c.call(&Call::decode(m, m.min(2), 1, 1, &word))?;
+        c.call(&Call::IsCodeword { m, r: 1, word: word.clone() })?;
+        c.call(&Call::ReadMessage { m, r: m, word: word.clone(), out: n })?;
+        c.call(&Call::Encode { m, r: m, message: word, out: n })?;
+    }
+    Ok(())
+}
+
+/// Lengths that are one off, at every exponent.
+pub fn each_length(c: &mut Comparison, m: usize, r: usize) -> Result<(), Disagreement> {
+    let (n, k) = (1 << m, message_bits(m, r));
+    for (more_in, more_out, area) in [(0, 1, 8 * n), (2, 1, 8 * n), (1, 0, 8 * n), (1, 2, 8 * n), (1, 1, 8 * n - 1)] {
+        let (word, message) = (vec![0; n + more_in - 1], vec![0; k + more_in - 1]);
+        c.call(&Call::IsCodeword { m, r, word: word.clone() })?;
+        c.call(&Call::ReadMessage { m, r, word: word.clone(), out: k + more_out - 1 })?;
+        c.call(&Call::Encode { m, r, message, out: n + more_out - 1 })?;
+        c.call(&Call::Decode { m, r, rounds: 1, leaves: 1, word, out: n + more_out - 1, area })?;
+    }
+    Ok(())
+}

@@ -1,0 +1,102 @@
+//! A call with its arguments, and what it leaves behind.
+
+use crate::decoder::{Answer, Decoder};
+use crate::lent;
+use std::fmt;
+
+/// `out` and `area` are lengths.
+#[derive(Clone, Debug)]
+pub enum Call {
+    Encode { m: usize, r: usize, message: Vec<u8>, out: usize },
+    ReadMessage { m: usize, r: usize, word: Vec<u8>, out: usize },
+    IsCodeword { m: usize, r: usize, word: Vec<u8> },
+    Decode { m: usize, r: usize, rounds: usize, leaves: usize, word: Vec<u8>, out: usize, area: usize },
+    DecodeProfile { profile: usize, word: Vec<u8>, out: usize, area: usize },
+}
+
+/// Answer, output and area after a call; a buffer is missing if something was written around it.
+#[derive(Clone, PartialEq, Eq, Debug)]
+pub struct Effects {
+    pub answer: Answer,
+    pub out: Option<Vec<u8>>,
+    pub area: Option<Vec<i32>>,
+    pub input_kept: bool,
+}
+
+impl Call {
+    /// A decoding call with buffers of the right sizes.
+    pub fn decode(m: usize, r: usize, rounds: usize, leaves: usize, word: &[u8]) -> Call {
+        Call::Decode { m, r, rounds, leaves, word: word.to_vec(), out: 1 << m, area: 8 << m }
+    }
+
+    pub fn decode_profile(profile: usize, word: &[u8]) -> Call {
+        Call::DecodeProfile { profile, word: word.to_vec(), out: word.len(), area: 8 * word.len() }
+    }
+
+    pub fn input(&self) -> &[u8] {
+        match self {
+            Call::Encode { message, .. } => message,
+            Call::ReadMessage { word, .. } | Call::IsCodeword { word, .. } => word,
+            Call::Decode { word, .. } | Call::DecodeProfile { word, .. } => word,
+        }
+    }
+
+    /// The lengths of output and area.
+    fn lengths(&self) -> (usize, usize) {
+        match self {
+            Call::Encode { out, .. } | Call::ReadMessage { out, .. } => (*out, 0),
+            Call::IsCodeword { .. } => (0, 0),
+            Call::Decode { out, area, .. } | Call::DecodeProfile { out, area, .. } => (*out, *area),
+        }
+    }
+
+    pub fn with_area(mut self, length: usize) -> Call {
+        if let Call::Decode { area, .. } | Call::DecodeProfile { area, .. } = &mut self {
+            *area = length;
+        }
+        self
+    }
+
+    /// Makes the call with buffers full of a pattern.
+    pub fn run(&self, decoder: &mut dyn Decoder) -> Effects {
+        let (out_length, area_length) = self.lengths();
+        let (mut out, mut area) = (lent::bytes(out_length), lent::numbers(area_length));
+        let input = self.input().to_vec();
+        let answer = self.made(decoder, &input, out.inside(), area.inside());
+        let input_kept = input == self.input();
+        Effects { answer, out: out.taken_back(), area: area.taken_back(), input_kept }
+    }
+
+    fn made(&self, decoder: &mut dyn Decoder, input: &[u8], out: &mut [u8], area: &mut [i32]) -> Answer {
+        match self {
+            Call::Encode { m, r, .. } => decoder.encode(*m, *r, input, out),
+            Call::ReadMessage { m, r, .. } => decoder.read_message(*m, *r, input, out),
+            Call::IsCodeword { m, r, .. } => decoder.is_codeword(*m, *r, input),
+            Call::Decode { m, r, rounds, leaves, .. } => decoder.decode(*m, *r, *rounds, *leaves, input, out, area),
+            Call::DecodeProfile { profile, .. } => decoder.decode_profile(*profile, input, out, area),
+        }
+    }
+}
+
+/// Bits without spaces; a byte above 1 as its number in brackets.
+pub fn digits(bytes: &[u8]) -> String {
+    let digit = |byte: &u8| if *byte > 1 { format!("({byte})") } else { byte.to_string() };
+    bytes.iter().map(digit).collect()
+}
+
+impl fmt::Display for Call {
+    fn fmt(&self, f: &mut fmt::Formatter) -> fmt::Result {
+        match self {
+            Call::Encode { m, r, .. } => write!(f, "encode m {m} r {r}")?,
+            Call::ReadMessage { m, r, .. } => write!(f, "read_message m {m} r {r}")?,
+            Call::IsCodeword { m, r, .. } => write!(f, "is_codeword m {m} r {r}")?,
+            Call::Decode { m, r, rounds, leaves, .. } => {
+                write!(f, "decode m {m} r {r} rounds {rounds} leaves {leaves}")?
+            }
+            Call::DecodeProfile { profile, .. } => write!(f, "decode_profile {profile}")?,
+        }
+        let (out, area) = self.lengths();
+        let input = self.input();
+        write!(f, ", input of {}: {}, output of {out}, area of {area}", input.len(), digits(input))
+    }
+}

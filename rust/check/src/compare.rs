@@ -1,0 +1,93 @@
+//! One call made on both decoders, and whether they agree.
+
+use crate::call::{digits, Call, Effects};
+use crate::decoder::{Answer, Decoder};
+use crate::decoders::Faulty;
+use second::Fault;
+use std::fmt;
+
+/// What a decoder did otherwise than it should.
+pub struct Disagreement(pub String);
+
+impl fmt::Display for Disagreement {
+    fn fmt(&self, f: &mut fmt::Formatter) -> fmt::Result {
+        write!(f, "{}", self.0)
+    }
+}
+
+pub const REFUSALS: usize = 15;
+
+/// A decoder beside the right second decoder.
+pub struct Comparison<'a> {
+    pub candidate: &'a mut dyn Decoder,
+    right: Faulty,
+    /// How often each answer was given in a compared call, acceptance first.
+    pub met: [u64; REFUSALS],
+    pub pairs: u64,
+}
+
+impl<'a> Comparison<'a> {
+    pub fn new(candidate: &'a mut dyn Decoder) -> Comparison<'a> {
+        Comparison { candidate, right: Faulty::new(Fault::None), met: [0; REFUSALS], pairs: 0 }
+    }
+
+    /// Makes the call on both; the right effects if they agree.
+    pub fn call(&mut self, call: &Call) -> Result<Effects, Disagreement> {
+        let found = call.run(self.candidate);
+        let right = call.run(&mut self.right);
+        if !agree(&found, &right, call.input()) {
+            return Err(difference(call, &found, &right));
+        }
+        self.met[right.answer.refusal as usize] += 1;
+        Ok(right)
+    }
+
+    pub fn calls(&self) -> u64 {
+        self.met.iter().sum()
+    }
+
+    /// The answers from 0 to 14 that no call met.
+    pub fn never_met(&self) -> Vec<usize> {
+        (0..REFUSALS).filter(|number| self.met[*number] == 0).collect()
+    }
+}
+
+/// The place that 8 names is free, as long as it holds a byte above 1.
+fn agree(found: &Effects, right: &Effects, input: &[u8]) -> bool {
+    let mut answer = found.answer;
+    if right.answer.refusal == 8 && input.get(answer.place as usize).is_some_and(|byte| *byte > 1) {
+        answer.place = right.answer.place;
+    }
+    Effects { answer, ..found.clone() } == *right
+}
+
+fn numbers(answer: Answer) -> String {
+    let Answer { refusal, rounds, leaves, mended, place } = answer;
+    format!("refusal {refusal} rounds {rounds} leaves {leaves} mended {mended} place {place}")
+}
+
+/// Both sides in words.
+fn difference(call: &Call, found: &Effects, right: &Effects) -> Disagreement {
+    let mut text = format!("{call}\n  given: {}\n  right: {}", numbers(found.answer), numbers(right.answer));
+    let shown = |out: &Option<Vec<u8>>| out.as_ref().map_or("written around".into(), |out| digits(out));
+    if found.out != right.out {
+        text += &format!("\n  output given: {}\n  output right: {}", shown(&found.out), shown(&right.out));
+    }
+    if found.area != right.area {
+        text += &format!("\n  area: {}", area_difference(&found.area, &right.area));
+    }
+    if !found.input_kept {
+        text += "\n  the input was changed";
+    }
+    Disagreement(text)
+}
+
+fn area_difference(found: &Option<Vec<i32>>, right: &Option<Vec<i32>>) -> String {
+    let (Some(found), Some(right)) = (found, right) else {
+        return "written around".into();
+    };
+    match (0..right.len()).find(|i| found[*i] != right[*i]) {
+        Some(i) => format!("{} at {i}, right is {}", found[i], right[i]),
+        None => "the same".into(),
+    }
+}

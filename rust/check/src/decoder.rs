@@ -1,0 +1,40 @@
+//! The calls that every decoder under comparison offers.
+
+/// Refusal or 0, rounds, leaf count, mended places, and the place that 8 names.
+#[derive(Clone, Copy, PartialEq, Eq, Debug, Default)]
+pub struct Answer {
+    pub refusal: u64,
+    pub rounds: u64,
+    pub leaves: u64,
+    pub mended: u64,
+    pub place: u64,
+}
+
+impl Answer {
+    pub fn numbers(refusal: u64, rounds: u64, leaves: u64) -> Answer {
+        Answer { refusal, rounds, leaves, ..Answer::default() }
+    }
+}
+
+pub trait Decoder {
+    fn encode(&mut self, m: usize, r: usize, message: &[u8], out: &mut [u8]) -> Answer;
+
+    fn read_message(&mut self, m: usize, r: usize, word: &[u8], out: &mut [u8]) -> Answer;
+
+    /// Yes is 1 in the rounds.
+    fn is_codeword(&mut self, m: usize, r: usize, word: &[u8]) -> Answer;
+
+    #[allow(clippy::too_many_arguments)]
+    fn decode(
+        &mut self,
+        m: usize,
+        r: usize,
+        rounds: usize,
+        leaves: usize,
+        word: &[u8],
+        out: &mut [u8],
+        area: &mut [i32],
+    ) -> Answer;
+
+    fn decode_profile(&mut self, profile: usize, word: &[u8], out: &mut [u8], area: &mut [i32]) -> Answer;
+}

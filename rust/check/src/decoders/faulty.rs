@@ -1,0 +1,48 @@
+//! The second decoder, right or with a fault.
+
+use crate::decoder::{Answer, Decoder};
+use second::{Fault, Second};
+
+pub struct Faulty(Second);
+
+impl Faulty {
+    pub fn new(fault: Fault) -> Faulty {
+        Faulty(Second::new(fault))
+    }
+}
+
+fn answer(from: second::Answer) -> Answer {
+    let place = from.place as u64;
+    Answer { place, ..Answer::numbers(from.refusal as u64, from.rounds as u64, from.leaves as u64) }
+}
+
+impl Decoder for Faulty {
+    fn encode(&mut self, m: usize, r: usize, message: &[u8], out: &mut [u8]) -> Answer {
+        answer(self.0.encode(m, r, message, out))
+    }
+
+    fn read_message(&mut self, m: usize, r: usize, word: &[u8], out: &mut [u8]) -> Answer {
+        answer(self.0.read_message(m, r, word, out))
+    }
+
+    fn is_codeword(&mut self, m: usize, r: usize, word: &[u8]) -> Answer {
+        answer(self.0.is_codeword(m, r, word))
+    }
+
+    fn decode(
+        &mut self,
+        m: usize,
+        r: usize,
+        rounds: usize,
+        leaves: usize,
+        word: &[u8],
+        out: &mut [u8],
+        area: &mut [i32],
+    ) -> Answer {
+        answer(self.0.decode(m, r, rounds, leaves, word, out, area))
+    }
+
+    fn decode_profile(&mut self, profile: usize, word: &[u8], out: &mut [u8], area: &mut [i32]) -> Answer {
+        answer(self.0.decode_profile(profile, word, out, area))
+    }
+}

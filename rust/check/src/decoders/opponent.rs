@@ -1,0 +1,68 @@
+//! The decoders written for speed; they have no area, so check 7 and the clearing are made here.
+
+use crate::decoder::{Answer, Decoder};
+use opponent::{check_decoding, plain, profile, Workspace};
+
+pub enum Opponent {
+    Packed(Workspace),
+    Plain(plain::Workspace),
+}
+
+impl Opponent {
+    pub fn packed() -> Opponent {
+        Opponent::Packed(Workspace::default())
+    }
+
+    pub fn plain() -> Opponent {
+        Opponent::Plain(plain::Workspace::default())
+    }
+}
+
+fn answer(from: opponent::Answer) -> Answer {
+    let place = from.place as u64;
+    Answer { place, ..Answer::numbers(from.refusal as u64, from.rounds as u64, from.leaves as u64) }
+}
+
+impl Decoder for Opponent {
+    fn encode(&mut self, m: usize, r: usize, message: &[u8], out: &mut [u8]) -> Answer {
+        answer(opponent::encode(m, r, message, out))
+    }
+
+    fn read_message(&mut self, m: usize, r: usize, word: &[u8], out: &mut [u8]) -> Answer {
+        answer(opponent::read_message(m, r, word, out))
+    }
+
+    fn is_codeword(&mut self, m: usize, r: usize, word: &[u8]) -> Answer {
+        answer(opponent::is_codeword(m, r, word))
+    }
+
+    fn decode(
+        &mut self,
+        m: usize,
+        r: usize,
+        rounds: usize,
+        leaves: usize,
+        word: &[u8],
+        out: &mut [u8],
+        area: &mut [i32],
+    ) -> Answer {
+        if check_decoding(m, r, rounds, leaves, word, out) == 0 && area.len() < 8 << m {
+            return Answer::numbers(7, 0, 0);
+        }
+        let answer = answer(match self {
+            Opponent::Packed(work) => opponent::decode(m, r, rounds, leaves, word, out, work),
+            Opponent::Plain(work) => plain::decode(m, r, rounds, leaves, word, out, work),
+        });
+        if !(1..=8).contains(&answer.refusal) {
+            area.fill(0);
+        }
+        answer
+    }
+
+    fn decode_profile(&mut self, number: usize, word: &[u8], out: &mut [u8], area: &mut [i32]) -> Answer {
+        match profile(number) {
+            None => Answer::numbers(14, 0, 0),
+            Some(p) => self.decode(p.m, p.r, p.rounds, p.leaves, word, out, area),
+        }
+    }
+}

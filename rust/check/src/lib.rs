@@ -1,0 +1,18 @@
+//! The comparison of a decoder with the second decoder, call by call: answer, output and area.
+
+pub mod alike;
+mod bad_calls;
+pub mod blocks;
+pub mod call;
+pub mod code_calls;
+pub mod compare;
+pub mod decoder;
+pub mod decoders;
+mod lent;
+pub mod plan;
+pub mod random;
+mod small;
+pub mod values;
+
+pub use compare::{Comparison, Disagreement};
+pub use decoder::{Answer, Decoder};

@@ -1,0 +1,103 @@
+//! What the comparison goes through.
+
+use crate::compare::{Comparison, Disagreement};
+use crate::{alike, bad_calls, blocks, code_calls, small, values};
+
+/// Few calls that still show every fault.
+pub fn directed(c: &mut Comparison) -> Result<(), Disagreement> {
+    values::all(c)?;
+    small::every_word(c, 2)?;
+    for m in 1..=4 {
+        code_calls::monomials(c, m)?;
+    }
+    code_calls::every(c, 2)?;
+    bad_calls::many(c, 90, 400)?;
+    blocks::by_profile(c, 91, 0, 10)?;
+    blocks::by_profile(c, 92, 1, 10)
+}
+
+pub type Part = (&'static str, fn(&mut Comparison) -> Result<(), Disagreement>);
+
+/// The whole comparison by parts.
+pub const WHOLE: [Part; 8] = [
+    ("known values", values::all),
+    ("every word to m 4", every_small_word),
+    ("encoder, message reader, codeword test", every_code_call),
+    ("bad arguments", every_bad_call),
+    ("blocks of m 4 to 6", small_blocks),
+    ("blocks of m 7 to 10", large_blocks),
+    ("profiles", profile_blocks),
+    ("pairs that differ by a codeword", every_pair),
+];
+
+fn every_small_word(c: &mut Comparison) -> Result<(), Disagreement> {
+    (1..=3).try_for_each(|m| small::every_word(c, m))?;
+    (0..=4).try_for_each(|r| small::every_word_of_4(c, r, 4))
+}
+
+fn every_code_call(c: &mut Comparison) -> Result<(), Disagreement> {
+    (1..=3).try_for_each(|m| code_calls::every(c, m))?;
+    (1..=6).try_for_each(|m| code_calls::monomials(c, m))?;
+    (4..=7).try_for_each(|m| code_calls::sampled(c, 100 + m as u64, m, 40))?;
+    (8..=10).try_for_each(|m| code_calls::sampled(c, 100 + m as u64, m, 4))
+}
+
+fn every_bad_call(c: &mut Comparison) -> Result<(), Disagreement> {
+    bad_calls::many(c, 200, 20_000)?;
+    (1..=10).try_for_each(|m| bad_calls::each_bad_byte(c, m))?;
+    (1..=10).try_for_each(|m| [0, 1, m].iter().try_for_each(|r| bad_calls::each_length(c, m, *r)))
+}
+
+/// Exponent, orders, and how many blocks of each.
+type Sample = (usize, std::ops::RangeInclusive<usize>, usize);
+
+fn samples(c: &mut Comparison, seed: u64, list: &[Sample]) -> Result<(), Disagreement> {
+    for (m, orders, count) in list {
+        for r in orders.clone() {
+            blocks::sampled(c, seed + (16 * m + r) as u64, *m, r, *count)?;
+        }
+    }
+    Ok(())
+}
+
+fn small_blocks(c: &mut Comparison) -> Result<(), Disagreement> {
+    samples(c, 300, &[(4, 0..=4, 1_000), (5, 0..=2, 400), (5, 3..=5, 100)])?;
+    samples(c, 500, &[(6, 0..=2, 200), (6, 3..=3, 60), (6, 4..=4, 8), (6, 5..=6, 3)])
+}
+
+fn large_blocks(c: &mut Comparison) -> Result<(), Disagreement> {
+    samples(c, 700, &[(7, 0..=2, 100), (7, 3..=3, 12), (8, 0..=2, 60), (8, 3..=3, 3), (9, 0..=2, 10), (10, 0..=2, 6)])?;
+    for m in 7..=10 {
+        for r in 2..=m {
+            blocks::limited(c, 900 + (16 * m + r) as u64, m, r, 5_000)?;
+        }
+    }
+    blocks::limited(c, 1_000, 7, 4, 600_000)?;
+    blocks::limited(c, 1_001, 8, 3, 200_000)
+}
+
+fn profile_blocks(c: &mut Comparison) -> Result<(), Disagreement> {
+    for (number, count) in [2_000, 600, 300, 100, 8].into_iter().enumerate() {
+        blocks::by_profile(c, 1_100 + number as u64, number, count)?;
+    }
+    Ok(())
+}
+
+fn every_pair(c: &mut Comparison) -> Result<(), Disagreement> {
+    for m in 1..=10 {
+        for r in 0..=m {
+            let pairs = if m <= 5 || r <= 1 {
+                200
+            } else if r == 2 {
+                40
+            } else {
+                3
+            };
+            alike::sampled(c, 1_200 + (16 * m + r) as u64, m, r, pairs)?;
+        }
+    }
+    for (number, pairs) in [1_000, 300, 150, 60, 3].into_iter().enumerate() {
+        alike::by_profile(c, 1_500 + number as u64, number, pairs)?;
+    }
+    Ok(())
+}

@@ -1,0 +1,26 @@
+//! The pairs of demand 3 notice the faults that demand 3 alone shuts out.
+
+use check::alike;
+use check::compare::Comparison;
+use check::decoders::Faulty;
+use second::Fault;
+
+fn noticed(fault: Fault) -> bool {
+    let mut faulty = Faulty::new(fault);
+    let mut comparison = Comparison::new(&mut faulty);
+    (1..=4).any(|m| (0..=m).any(|r| alike::sampled(&mut comparison, 1, m, r, 50).is_err()))
+}
+
+#[test]
+fn pairs_notice_what_depends_on_the_codeword() {
+    for fault in [Fault::LowerMask, Fault::AbstainerVotesZeros, Fault::OrderZeroTieZeros, Fault::AlwaysZeros] {
+        assert!(noticed(fault), "{fault:?}");
+    }
+}
+
+#[test]
+fn pairs_admit_what_does_not() {
+    for fault in [Fault::None, Fault::Always9, Fault::Always11, Fault::SettledUntested, Fault::ConstantLeaves] {
+        assert!(!noticed(fault), "{fault:?}");
+    }
+}

@@ -1,0 +1,79 @@
+//! The comparison notices each fault of the second decoder.
+
+use check::compare::Comparison;
+use check::decoders::Faulty;
+use check::plan::directed;
+use second::Fault;
+
+fn disagrees(fault: Fault) -> bool {
+    let mut faulty = Faulty::new(fault);
+    match directed(&mut Comparison::new(&mut faulty)) {
+        Ok(()) => false,
+        Err(disagreement) => {
+            println!("{fault:?}: {disagreement}");
+            true
+        }
+    }
+}
+
+/// One test for each fault, and the list of their names.
+macro_rules! noticed {
+    ($($test:ident: $fault:ident),* $(,)?) => {
+        $(
+            #[test]
+            fn $test() {
+                assert!(disagrees(Fault::$fault));
+            }
+        )*
+
+        const NOTICED: &[Fault] = &[$(Fault::$fault),*];
+    };
+}
+
+noticed! {
+    lower_mask: LowerMask,
+    flips_during_round: FlipsDuringRound,
+    abstainer_votes_zeros: AbstainerVotesZeros,
+    order_zero_tie_zeros: OrderZeroTieZeros,
+    first_outermost_round_leaves: FirstOutermostRoundLeaves,
+    last_outermost_round_leaves: LastOutermostRoundLeaves,
+    inner_first_round_leaves: InnerFirstRoundLeaves,
+    lowest_one_in_projection: LowestOneInProjection,
+    lowest_one_in_vote: LowestOneInVote,
+    settled_untested: SettledUntested,
+    codeword_at_round_limit: CodewordAtRoundLimit,
+    equal_is_twelve: EqualIsTwelve,
+    always_9: Always9,
+    always_10: Always10,
+    always_11: Always11,
+    always_12: Always12,
+    received_word_back: ReceivedWordBack,
+    constant_leaves: ConstantLeaves,
+    one_real_round: OneRealRound,
+    always_zeros: AlwaysZeros,
+    output_never_written: OutputNeverWritten,
+    output_on_refusal: OutputOnRefusal,
+    area_not_cleared: AreaNotCleared,
+    area_tail_kept: AreaTailKept,
+    area_cleared_after_8: AreaClearedAfter8,
+    masks_by_degree: MasksByDegree,
+    senior_first: SeniorFirst,
+    message_untested: MessageUntested,
+}
+
+/// This one renumbers cosets in projection and vote alike, which no answer shows; the tests of `second` see it.
+#[test]
+fn lowest_one_everywhere_shows_in_no_answer() {
+    assert!(!disagrees(Fault::LowestOneEverywhere));
+}
+
+#[test]
+fn the_right_decoder_agrees() {
+    assert!(!disagrees(Fault::None));
+}
+
+#[test]
+fn every_fault_has_a_test() {
+    let missing: Vec<&Fault> = Fault::ALL.iter().filter(|fault| !NOTICED.contains(fault)).collect();
+    assert_eq!(missing, [&Fault::LowestOneEverywhere]);
+}

@@ -1,0 +1,57 @@
+//! Answers, and the checks of a call's arguments.
+
+#[derive(Clone, Copy, PartialEq, Eq, Debug, Default)]
+pub struct Answer {
+    pub refusal: u8,
+    pub rounds: usize,
+    pub leaves: usize,
+    /// The place that 8 names.
+    pub place: usize,
+}
+
+impl Answer {
+    pub fn refused(refusal: u8) -> Answer {
+        Answer { refusal, ..Answer::default() }
+    }
+
+    pub fn bad_byte(place: usize) -> Answer {
+        Answer { place, ..Answer::refused(8) }
+    }
+}
+
+/// 1 and 2, or 0.
+pub fn check_code(m: usize, r: usize) -> u8 {
+    if !(1..=10).contains(&m) {
+        1
+    } else if r > m {
+        2
+    } else {
+        0
+    }
+}
+
+/// 5 and 6, or 0.
+pub fn check_lengths(input: usize, right_input: usize, out: usize, right_out: usize) -> u8 {
+    if input != right_input {
+        5
+    } else if out != right_out {
+        6
+    } else {
+        0
+    }
+}
+
+/// 1 to 6, or 0.
+pub fn check_decoding(m: usize, r: usize, rounds: usize, leaves: usize, word: &[u8], out: &[u8]) -> u8 {
+    match check_code(m, r) {
+        0 => {}
+        refusal => return refusal,
+    }
+    if !(1..=16).contains(&rounds) {
+        return 3;
+    }
+    if !(1..=1_000_000).contains(&leaves) {
+        return 4;
+    }
+    check_lengths(word.len(), 1 << m, out.len(), 1 << m)
+}

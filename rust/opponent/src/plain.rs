@@ -1,0 +1,47 @@
+//! The same decoder with one number for each place and loops that follow the rule step by step.
+
+mod cosets;
+mod leaf;
+mod reading;
+
+use crate::call::{check_decoding, Answer};
+use crate::profiles::profile;
+use reading::Reader;
+pub use reading::Workspace;
+
+/// Decodes under these limits.
+pub fn decode(
+    m: usize,
+    r: usize,
+    rounds: usize,
+    leaves: usize,
+    word: &[u8],
+    out: &mut [u8],
+    work: &mut Workspace,
+) -> Answer {
+    match check_decoding(m, r, rounds, leaves, word, out) {
+        0 => {}
+        refusal => return Answer::refused(refusal),
+    }
+    if word.iter().fold(0, |all, byte| all | byte) > 1 {
+        return Answer::bad_byte(word.iter().position(|byte| *byte > 1).unwrap_or(0));
+    }
+    work.levels[0].rows[0][..word.len()].copy_from_slice(word);
+    let mut reader = Reader { round_limit: rounds, leaf_limit: leaves as u64, leaves: 0 };
+    let (refusal, made) = reader.reading(m, r, &mut work.levels);
+    if refusal == 12 {
+        return Answer { leaves, ..Answer::refused(12) };
+    }
+    if refusal == 0 {
+        out.copy_from_slice(&work.levels[0].rows[0][..word.len()]);
+    }
+    Answer { refusal, rounds: made, leaves: reader.leaves as usize, place: 0 }
+}
+
+/// Decodes under a profile.
+pub fn decode_profile(number: usize, word: &[u8], out: &mut [u8], work: &mut Workspace) -> Answer {
+    match profile(number) {
+        None => Answer::refused(14),
+        Some(p) => decode(p.m, p.r, p.rounds, p.leaves, word, out, work),
+    }
+}

@@ -1,0 +1,92 @@
+//! The decoder written for speed against the second one.
+
+use opponent::Workspace;
+use second::message_bits;
+use second::{code, Fault, Second};
+
+struct Random(u64);
+
+impl Random {
+    fn below(&mut self, end: usize) -> usize {
+        self.0 ^= self.0 << 13;
+        self.0 ^= self.0 >> 7;
+        self.0 ^= self.0 << 17;
+        (self.0 >> 33) as usize % end
+    }
+
+    fn bits(&mut self, length: usize) -> Vec<u8> {
+        (0..length).map(|_| self.below(2) as u8).collect()
+    }
+}
+
+struct Both {
+    right: Second,
+    work: Workspace,
+    random: Random,
+}
+
+impl Both {
+    fn new(seed: u64) -> Both {
+        Both { right: Second::new(Fault::None), work: Workspace::new(), random: Random(seed) }
+    }
+
+    fn decode(&mut self, m: usize, r: usize, rounds: usize, leaves: usize, word: &[u8]) -> usize {
+        let (mut out, mut right_out, mut area) = (vec![7; 1 << m], vec![7; 1 << m], vec![1; 8 << m]);
+        let found = opponent::decode(m, r, rounds, leaves, word, &mut out, &mut self.work);
+        let right = self.right.decode(m, r, rounds, leaves, word, &mut right_out, &mut area);
+        let place = (found.refusal, found.rounds, found.leaves, found.place);
+        assert_eq!(
+            place,
+            (right.refusal, right.rounds, right.leaves, right.place),
+            "{m} {r} {rounds} {leaves} {word:?}"
+        );
+        assert_eq!(out, right_out, "{m} {r} {rounds} {leaves} {word:?}");
+        right.leaves
+    }
+
+    /// A codeword with up to half its places wrong, under a round limit by chance.
+    fn block(&mut self, m: usize, r: usize) {
+        let mut word = code::codeword(m, r, &self.random.bits(message_bits(m, r)), Fault::None);
+        for _ in 0..self.random.below(1 << (m - 1)) {
+            word[self.random.below(1 << m)] ^= 1;
+        }
+        let rounds = [1, 2, 3, 4, 16][self.random.below(5)];
+        let count = self.decode(m, r, rounds, 1_000_000, &word);
+        for limit in [count, count + 1, count.saturating_sub(1)] {
+            self.decode(m, r, rounds, limit, &word);
+        }
+    }
+}
+
+#[test]
+fn decoding() {
+    let mut both = Both::new(11);
+    for (m, orders, blocks) in [(1, 2, 50), (2, 3, 100), (3, 4, 300), (4, 5, 300), (5, 6, 40), (6, 4, 20), (7, 3, 40)] {
+        for r in 0..orders {
+            (0..blocks).for_each(|_| both.block(m, r));
+        }
+    }
+    for (m, r, blocks) in [(7, 3, 3), (8, 2, 20), (8, 3, 1), (9, 2, 3), (10, 1, 5), (10, 2, 2)] {
+        (0..blocks).for_each(|_| both.block(m, r));
+    }
+}
+
+#[test]
+fn codes() {
+    let mut both = Both::new(12);
+    for m in 1..=10 {
+        for r in 0..=m {
+            let k = message_bits(m, r);
+            let message = both.random.bits(k);
+            let (mut word, mut read) = (vec![7; 1 << m], vec![7; k]);
+            assert_eq!(opponent::encode(m, r, &message, &mut word).refusal, 0);
+            assert_eq!(word, code::codeword(m, r, &message, Fault::None));
+            assert_eq!(opponent::read_message(m, r, &word, &mut read).refusal, 0);
+            assert_eq!(read, message);
+            assert_eq!(opponent::is_codeword(m, r, &word).rounds, 1);
+            word[both.random.below(1 << m)] ^= 1;
+            assert_eq!(opponent::is_codeword(m, r, &word).rounds, (r == m) as usize);
+            assert_eq!(opponent::read_message(m, r, &word, &mut read).refusal, if r == m { 0 } else { 13 });
+        }
+    }
+}

@@ -1,0 +1,96 @@
+//! The ways in which the second decoder can be made wrong.
+
+#[derive(Clone, Copy, PartialEq, Eq, Debug)]
+pub enum Fault {
+    /// The right decoder.
+    None,
+    /// Equal correlations give the codeword of the lower mask instead of a tie.
+    LowerMask,
+    /// A place flips as soon as its votes suffice, so later directions see a mixed word.
+    FlipsDuringRound,
+    /// A direction without a codeword votes as if it had decoded zeros.
+    AbstainerVotesZeros,
+    /// A tie at order 0 gives zeros.
+    OrderZeroTieZeros,
+    /// Leaves are counted in the first round of the reading asked for, and in no later one.
+    FirstOutermostRoundLeaves,
+    /// Leaves are counted in the last round of the reading asked for only.
+    LastOutermostRoundLeaves,
+    /// Leaves of an inner reading are counted in its first round only.
+    InnerFirstRoundLeaves,
+    /// The lowest one of a direction serves as h, in projection and vote alike.
+    LowestOneEverywhere,
+    /// The lowest one of a direction serves as h in the projection only.
+    LowestOneInProjection,
+    /// The lowest one of a direction serves as h in the vote only.
+    LowestOneInVote,
+    /// A settled word is accepted without the codeword test.
+    SettledUntested,
+    /// A codeword reached by the flips of the last permitted round is accepted.
+    CodewordAtRoundLimit,
+    /// 12 also where the leaf count equals the limit.
+    EqualIsTwelve,
+    /// Every reading is refused by this number, and nothing is written.
+    Always9,
+    Always10,
+    Always11,
+    Always12,
+    /// An accepted word is the received one.
+    ReceivedWordBack,
+    /// The leaf count is one round's, whatever was read.
+    ConstantLeaves,
+    /// One real round; a second is reported as if nothing had flipped in it.
+    OneRealRound,
+    /// An accepted word is zeros.
+    AlwaysZeros,
+    /// An accepted word is not written.
+    OutputNeverWritten,
+    /// The received word is written where the reading is refused.
+    OutputOnRefusal,
+    /// The area keeps what was in it.
+    AreaNotCleared,
+    /// Only the first 8 × n numbers of the area are cleared.
+    AreaTailKept,
+    /// The area is cleared after 8 too.
+    AreaClearedAfter8,
+    /// Message bits go by degree first, masks ascending within a degree.
+    MasksByDegree,
+    /// The first variable stands in the senior place.
+    SeniorFirst,
+    /// The message reader does not test the word.
+    MessageUntested,
+}
+
+impl Fault {
+    pub const ALL: [Fault; 29] = [
+        Fault::LowerMask,
+        Fault::FlipsDuringRound,
+        Fault::AbstainerVotesZeros,
+        Fault::OrderZeroTieZeros,
+        Fault::FirstOutermostRoundLeaves,
+        Fault::LastOutermostRoundLeaves,
+        Fault::InnerFirstRoundLeaves,
+        Fault::LowestOneEverywhere,
+        Fault::LowestOneInProjection,
+        Fault::LowestOneInVote,
+        Fault::SettledUntested,
+        Fault::CodewordAtRoundLimit,
+        Fault::EqualIsTwelve,
+        Fault::Always9,
+        Fault::Always10,
+        Fault::Always11,
+        Fault::Always12,
+        Fault::ReceivedWordBack,
+        Fault::ConstantLeaves,
+        Fault::OneRealRound,
+        Fault::AlwaysZeros,
+        Fault::OutputNeverWritten,
+        Fault::OutputOnRefusal,
+        Fault::AreaNotCleared,
+        Fault::AreaTailKept,
+        Fault::AreaClearedAfter8,
+        Fault::MasksByDegree,
+        Fault::SeniorFirst,
+        Fault::MessageUntested,
+    ];
+}

@@ -1,0 +1,18 @@
+//! A second encoder, message reader, codeword test and decoder, written from the papers alone and for
+//! plainness, not speed: everything is found by search and by trying all codewords.
+//! It can be made wrong in named ways (`Fault`), to show that a comparison with it notices them.
+
+mod answer;
+mod calls;
+mod checks;
+pub mod code;
+pub mod direction;
+mod fault;
+mod leaves;
+pub mod profiles;
+mod reading;
+
+pub use answer::Answer;
+pub use calls::Second;
+pub use checks::message_bits;
+pub use fault::Fault;
