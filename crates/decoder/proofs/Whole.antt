@@ -30,8 +30,9 @@ use Rattle.rule.specs.ProfileLaws.{profile-code, profile-passes}
 use Rattle.rule.specs.Calls.{Decodes, valuesOf}
 use Rattle.rule.specs.Counts.{reading-noise}
 use Rattle.steps.specs.Steps.{Holds, Read}
-use Rattle.decoder.specs.Readings.{Deliverable, delivered, Ready, Runs}
-use Rattle.decoder.proofs.Answers.{Late, by-answer, limited-late}
+use Rattle.readings.specs.Readings.{Ready}
+use Rattle.decoder.specs.Runs.{Deliverable, delivered, Runs}
+use Rattle.readings.specs.Answers.{Late, by-answer, limited-late}
 
 -- ---- a reading
 

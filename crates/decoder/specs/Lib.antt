@@ -1,2 +1,2 @@
--- What the decoder's functions ask and promise: Readings.
-pub mod Readings
+-- What the decoder's functions ask and promise: Runs.
+pub mod Runs

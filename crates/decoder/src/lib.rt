@@ -5,14 +5,13 @@ ghost use Rattle.refusals.specs.Refusals.{Checked};
 ghost use Rattle.rule.specs.Reading;
 ghost use Rattle.rule.specs.Decoding.{limited, decodeCall, decodeProfileCall};
 ghost use Rattle.rule.specs.Calls.{Decodes};
-ghost use Rattle.decoder.specs.Readings.{Runs, Deliverable, delivered};
-use reading::reading;
+ghost use Rattle.decoder.specs.Runs.{Runs, Deliverable, delivered};
+use readings::reading;
 use refusals::Answer;
 use refusals::Decoded;
 use refusals::Refusal;
 
 mod checks;
-mod reading;
 
 // The decoded word, where there is one, to the output.
 fn deliver(answer: Decoded, area: &[i32], out: &mut [u8])

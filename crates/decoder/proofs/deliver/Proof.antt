@@ -3,7 +3,7 @@ use borrow.Author.Needs.{needs}
 use mathlib.Core.Path.{sym, ap, subst, _∙_}
 use lib.ListN.{length}
 use Rattle.refusals.specs.declared.Decoded.{Decoded}
-use Rattle.decoder.specs.Readings.{Deliverable, delivered}
+use Rattle.decoder.specs.Runs.{Deliverable, delivered}
 use Rattle.decoder.proofs.deliver.Statement.{statement}
 use Rattle.decoder.proofs.deliver.Tie as tie
 

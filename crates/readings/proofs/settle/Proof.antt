@@ -1,4 +1,4 @@
--- `decoder::reading::settle` meets its contract. Assumes nothing.
+-- `readings::settle` meets its contract. Assumes nothing.
 use borrow.Author.Needs.{needs}
 use Prim.Native.Nat.{ℕ}
 use mathlib.Core.Path.{sym, ap, _∙_}
@@ -6,8 +6,8 @@ use mathlib.Core.Bool.{Bool, cond}
 use Rattle.refusals.specs.declared.Refusal.the-variants.{Unsettled}
 use Rattle.refusals.specs.declared.Decoded.{Decoded}
 use Rattle.refusals.specs.declared.Decoded.the-variants.{Accepted, Refused}
-use Rattle.decoder.proofs.reading.settle.Statement.{statement}
-use Rattle.decoder.proofs.reading.settle.Tie as tie
+use Rattle.readings.proofs.settle.Statement.{statement}
+use Rattle.readings.proofs.settle.Tie as tie
 
 -- the answer by the test
 abbrev answer : ℕ → ℕ → Bool → Decoded

@@ -1,4 +1,4 @@
--- What a reading, a round and a call ask and promise. Assumes nothing.
+-- What a reading and a round ask and promise. Assumes nothing.
 use Prim.Native.Nat.{ℕ, suc, _+_, _*_, _^_, _≤_, _<_}
 use mathlib.Core.Path.{_≡_}
 use mathlib.Core.Bool.{cond}
@@ -6,10 +6,7 @@ use mathlib.Core.List.{List}
 use lib.ListN.{length}
 use lib.Dec.{ltb}
 use lib.IntN.{ℤ, pos}
-use Rattle.words.specs.Word.{IsWord}
 use Rattle.area.specs.Area.{at, Bits, SameFront, wordOf}
-use Rattle.refusals.specs.declared.Decoded.{Decoded}
-use Rattle.refusals.specs.declared.Decoded.the-variants.{Accepted, Refused}
 use Rattle.rule.specs.Reading.{Outcome, votes, roundLeaves}
 use Rattle.steps.specs.declared.Count.{Count}
 use Rattle.steps.specs.declared.Count.the-variants.{Done, Exhausted}
@@ -33,23 +30,3 @@ pub record Voted (m left : ℕ) (lower : List ℕ → Outcome) (xs ys : List ℤ
   pub kept : SameFront (2 ^ suc m) xs ys
   pub tally : roundLeaves m lower (wordOf (2 ^ suc m) xs) ≤ left → (p : ℕ) → p < 2 ^ suc m
       → at ys (2 ^ suc m + p) ≡ pos (votes m lower (wordOf (2 ^ suc m) xs) p)
-
--- a call that passed its checks
-pub record Runs (m r rounds leaves : ℕ) (word out : List ℕ) (area : List ℤ) : Type 0 where
-  pub some : 1 ≤ m
-  pub small : m ≤ 10
-  pub order : r ≤ m
-  pub few : leaves ≤ 1000000
-  pub input : IsWord m word
-  pub output : length out ≡ 2 ^ m
-  pub room : 8 * 2 ^ m ≤ length area
-
--- where a word of n bits was accepted, it stands in the front
-abbrev pub Deliverable : ℕ → Decoded → List ℤ → Type 0
-Deliverable n (Accepted k l) xs = Bits n xs
-Deliverable n (Refused why k l) xs = Unit {0}
-
--- the output after the word was delivered
-abbrev pub delivered : Decoded → List ℕ → List ℤ → List ℕ
-delivered (Accepted k l) out xs = wordOf (length out) xs
-delivered (Refused why k l) out xs = out

@@ -21,7 +21,7 @@ use Rattle.rule.specs.Counts.{Noise}
 use Rattle.steps.specs.Steps.{countIn, Holds, Read}
 use Rattle.steps.specs.declared.Count.{Count}
 use Rattle.steps.specs.declared.Count.the-variants.{Done, Exhausted}
-use Rattle.decoder.specs.Readings.{countOf}
+use Rattle.readings.specs.Readings.{countOf}
 
 -- ---- refusals after the checks
 

@@ -21,7 +21,7 @@ use Rattle.direction.specs.Votes.{Tally}
 use Rattle.rule.specs.Reading.{Outcome, accepted, refused, vote, votes, abstained, flipped, flips}
 use Rattle.rule.specs.Rounds.{flips-word, still}
 use Rattle.steps.specs.Steps.{flipOf}
-use Rattle.decoder.proofs.Fronts.{front-kept}
+use Rattle.readings.proofs.Fronts.{front-kept}
 
 pub vote-le : (b : ℕ) (v : List ℕ) (o : Outcome) (p : ℕ) → vote b v o p ≤ 1
 vote-le b v (accepted d k l) p = omega arith

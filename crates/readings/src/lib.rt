@@ -17,7 +17,7 @@ ghost use Rattle.area.specs.Area.{Bits, SameFront, wordOf};
 ghost use Rattle.rule.specs.Reading;
 ghost use Rattle.rule.specs.Decoding.{limited};
 ghost use Rattle.steps.specs.Steps.{Read};
-ghost use Rattle.decoder.specs.Readings.{Ready, Voted};
+ghost use Rattle.readings.specs.Readings.{Ready, Voted};
 
 // The answer for a word that no round changes.
 fn settle(m: usize, r: usize, k: usize, used: usize, area: &mut [i32]) -> Decoded

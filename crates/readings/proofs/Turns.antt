@@ -30,10 +30,10 @@ use Rattle.rule.specs.Calls.{valuesOf}
 use Rattle.steps.specs.Steps.{flipOf, Read}
 use Rattle.steps.specs.declared.Count.{Count}
 use Rattle.steps.specs.declared.Count.the-variants.{Done, Exhausted}
-use Rattle.decoder.specs.Readings.{Ready, Voted}
-use Rattle.decoder.proofs.Answers.{counted, read-above, read-within, spent}
-use Rattle.decoder.proofs.Flips.{Polled, polled-tally, still-is, word-flipped, word-settled}
-use Rattle.decoder.proofs.Fronts.{front-of, front-kept}
+use Rattle.readings.specs.Readings.{Ready, Voted}
+use Rattle.readings.specs.Answers.{counted, read-above, read-within, spent}
+use Rattle.readings.proofs.Flips.{Polled, polled-tally, still-is, word-flipped, word-settled}
+use Rattle.readings.proofs.Fronts.{front-of, front-kept}
 
 -- ---- orders 0 and 1
 

@@ -16,17 +16,17 @@ use Rattle.steps.proofs.leaf.first_order.Reads as first-order-reads
 use Rattle.steps.proofs.leaf.zero_order.Reads as zero-order-reads
 use Rattle.steps.proofs.vote.cast.Reads as cast-reads
 use Rattle.steps.proofs.vote.flip.Reads as flip-reads
-use Rattle.decoder.proofs.Directions.{Round, Poll, Zeroed, Stage, Lent, Answered, Cast, From, round-of, start-long, start-from, start-poll, stage-projects, lent-ready, answered-cast, cast-front, cast-long, cast-over, cast-few, cast-more, poll-done, poll-spent}
-use Rattle.decoder.proofs.Turns.{Series, Turn, Made, Flips, series, turn-first, turn-last, turn-exhausted, ready-round, made-few, made-flips, flips-bits, flips-again, flips-settled, read-zero, read-one, read-none}
-use Rattle.decoder.proofs.reading.settle.Reads as settle-reads
-use Rattle.decoder.proofs.reading.reading.Reads as reading
-use Rattle.decoder.proofs.reading.reading.Kinds as reading-kinds
-use Rattle.decoder.proofs.reading.round.Reads as round
-use Rattle.decoder.proofs.reading.round.Kinds as round-kinds
-use Rattle.decoder.proofs.reading.+reading+round.Lts-reading as reading-lts
-use Rattle.decoder.proofs.reading.+reading+round.Lts-round as round-lts
-use Rattle.decoder.proofs.reading.+reading+round.{statement}
-use Rattle.decoder.proofs.reading.+reading+round.Tie.{close}
+use Rattle.readings.proofs.Directions.{Round, Poll, Zeroed, Stage, Lent, Answered, Cast, From, round-of, start-long, start-from, start-poll, stage-projects, lent-ready, answered-cast, cast-front, cast-long, cast-over, cast-few, cast-more, poll-done, poll-spent}
+use Rattle.readings.proofs.Turns.{Series, Turn, Made, Flips, series, turn-first, turn-last, turn-exhausted, ready-round, made-few, made-flips, flips-bits, flips-again, flips-settled, read-zero, read-one, read-none}
+use Rattle.readings.proofs.settle.Reads as settle-reads
+use Rattle.readings.proofs.reading.Reads as reading
+use Rattle.readings.proofs.reading.Kinds as reading-kinds
+use Rattle.readings.proofs.round.Reads as round
+use Rattle.readings.proofs.round.Kinds as round-kinds
+use Rattle.readings.proofs.+reading+round.Lts-reading as reading-lts
+use Rattle.readings.proofs.+reading+round.Lts-round as round-lts
+use Rattle.readings.proofs.+reading+round.{statement}
+use Rattle.readings.proofs.+reading+round.Tie.{close}
 
 abbrev μ-reading : Measures 1 reading-kinds.ps ℕ
 μ-reading κs a = 2 * a .1 .0

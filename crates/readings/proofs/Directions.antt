@@ -30,10 +30,10 @@ use Rattle.rule.specs.Counts.{reading-noise}
 use Rattle.steps.specs.Steps.{countIn, voteOf, Voter, Holds, Read}
 use Rattle.steps.specs.declared.Count.{Count}
 use Rattle.steps.specs.declared.Count.the-variants.{Done, Exhausted}
-use Rattle.decoder.specs.Readings.{countOf, Ready, Voted}
-use Rattle.decoder.proofs.Answers.{Late, by-answer, count-is, counted, limited-late, spent}
-use Rattle.decoder.proofs.Flips.{vote-le}
-use Rattle.decoder.proofs.Fronts.{front-of, front-kept}
+use Rattle.readings.specs.Readings.{countOf, Ready, Voted}
+use Rattle.readings.specs.Answers.{Late, by-answer, count-is, counted, limited-late, spent}
+use Rattle.readings.proofs.Flips.{vote-le}
+use Rattle.readings.proofs.Fronts.{front-of, front-kept}
 
 -- a round: exponent, order and round limit of its readings, the leaves left, the word of exponent m + 1, and the length of the area
 pub record Round : Type 0 where
