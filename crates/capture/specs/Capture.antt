@@ -1,0 +1,82 @@
+-- The capture format: document 01, "Captures and the meter listing". Assumes nothing.
+use Prim.Native.Nat.{ℕ, suc, _+_, _-_, _*_, _/_, _%_, _^_}
+use mathlib.Core.Path.{_≡_}
+use mathlib.Core.Bool.{Bool, true, false, cond}
+use mathlib.Core.List.{List, [], _∷_}
+use lib.ListN.{length, getD, drop}
+use lib.Dec.{leb, ltb, eqb}
+use Rattle.words.specs.Sum.{tabulate}
+use Rattle.refusals.specs.Refusals.{numberOf}
+use Rattle.profiles.specs.Profiles.{profileOf}
+use Rattle.capture.specs.declared.Found.{Found}
+use Rattle.capture.specs.declared.Found.the-variants.{Record, Refused, NoneLeft}
+
+-- "A capture starts with the three letters WMR, then a 16-bit version, 1, senior byte first."
+abbrev pub header : List ℕ
+header = 0x57 ∷ 0x4d ∷ 0x52 ∷ 0 ∷ 1 ∷ []
+
+-- s has the entries of h from index i on
+abbrev pub agreesFrom : List ℕ → ℕ → List ℕ → Bool
+agreesFrom [] i s = true
+agreesFrom (a ∷ h) i s = cond (eqb (getD s i 0) a) (agreesFrom h (suc i) s) false
+
+-- "15: header wrong or short."
+abbrev pub headerTest : List ℕ → Bool
+headerTest s = cond (ltb (length s) 5) false (agreesFrom header 0 s)
+
+-- "serial (32 bits, senior byte first)"
+abbrev pub serialOf : List ℕ → ℕ
+serialOf s = ((getD s 0 0 * 256 + getD s 1 0) * 256 + getD s 2 0) * 256 + getD s 3 0
+
+-- "profile (one byte)"
+abbrev pub profileAt : List ℕ → ℕ
+profileAt s = getD s 4 0
+
+-- n of a profile, and the length of its record
+abbrev pub wordSize : ℕ → ℕ
+wordSize profile = 2 ^ (profileOf profile .m)
+
+abbrev pub recordSize : ℕ → ℕ
+recordSize profile = 5 + wordSize profile / 8
+
+-- "n bits packed, place 0 in the top bit of the first byte"
+abbrev pub packedBit : List ℕ → ℕ → ℕ
+packedBit s p = getD s (5 + p / 8) 0 / 2 ^ (7 - p % 8) % 2
+
+unfoldable pub unpacked : ℕ → List ℕ → List ℕ
+unpacked profile s = tabulate (wordSize profile) (packedBit s)
+
+-- what the reader answers: that no record is left; the number of a refusal, and the serial where it is printed, else 0; or a record's
+-- serial, its profile and the position after it
+pub data Answer : Type 0 where
+  none-left : Answer
+  refused : ℕ → ℕ → Answer
+  record-at : ℕ → ℕ → ℕ → Answer
+
+-- of each case of the code's answer
+abbrev pub answerOf : Found → Answer
+answerOf (Record serial profile next) = record-at serial profile next
+answerOf (Refused why serial) = refused (numberOf why) serial
+answerOf NoneLeft = none-left
+
+-- the record at the start of s, which stands at `at` of the capture, and a word buffer of `room` bytes: "Where no byte follows, the
+-- capture reader answers that no record is left"; "16: the capture ends inside a record"; 14 "is tested when the profile byte is read,
+-- before 16 for missing bits, and 6 for the capture reader's word buffer comes last"
+unfoldable pub recordIn : List ℕ → ℕ → ℕ → Answer
+recordIn s at room =
+    cond (eqb (length s) 0) none-left
+    (cond (ltb (length s) 5) (refused 16 0)
+    (cond (ltb 4 (profileAt s)) (refused 14 (serialOf s))
+    (cond (ltb (length s) (recordSize (profileAt s))) (refused 16 0)
+    (cond (eqb room (wordSize (profileAt s))) (record-at (serialOf s) (profileAt s) (at + recordSize (profileAt s))) (refused 6 (serialOf s))))))
+
+-- the word buffer after an answer: the record's bits, or as it was
+abbrev pub bufferOf : Answer → List ℕ → List ℕ → List ℕ
+bufferOf none-left s word = word
+bufferOf (refused number serial) s word = word
+bufferOf (record-at serial profile next) s word = unpacked profile s
+
+-- a call of the reader at a position: its answer, and the word buffer before and after
+pub record Finds (capture : List ℕ) (at : ℕ) (word word′ : List ℕ) (f : Found) : Type 0 where
+  pub answer : answerOf f ≡ recordIn (drop at capture) at (length word)
+  pub buffer : word′ ≡ bufferOf (recordIn (drop at capture) at (length word)) (drop at capture) word

@@ -1,0 +1,30 @@
+-- `listing::is_ready` meets its contract. Assumes nothing.
+use Rattle.listing.specs.StepLaws.{no-room, no-area, ready-last, ready-there}
+use borrow.Author.Needs.{needs}
+use native.Mathlib.Omega.{arith}
+use Rattle.listing.proofs.is_ready.Statement.{statement}
+use Rattle.listing.proofs.is_ready.Tie as tie
+
+returns : tie.Need-returns
+returns c = no-room _ _ (c .if1 .taken)
+
+returns-2 : tie.Need-returns-2
+returns-2 c = no-area _ _ (c .if2 .taken)
+
+returns-3 : tie.Need-returns-3
+returns-3 c = ready-last _ _ (omega arith) (omega arith) (c .if3 .taken)
+
+body-length-requires : tie.Need-body-length-requires
+body-length-requires c κs = search needs
+
+add-result : tie.Need-add-result
+add-result c = search needs
+
+returns-4 : tie.Need-returns-4
+returns-4 c =
+    let a = c .before .before .before .before .before .args in
+    rw (c .body-length .ensures .0) (ready-there (a .part .now) (a .last) (omega arith) (omega arith) (c .before .if3 .left) (omega arith))
+
+pub is-ready-spec : {M : Type 1} → statement M
+is-ready-spec =
+    tie.close (tie.spec returns returns-2 returns-3 body-length-requires add-result returns-4)
