@@ -1,8 +1,9 @@
 //! Races of the library against the decoder written for speed, both in one run. The first argument says which:
-//! decode, codes or all.
+//! decode, codes, listing or all.
 
 mod codes;
 mod decoding;
+mod listings;
 mod race;
 
 use std::process::ExitCode;
@@ -12,8 +13,9 @@ fn main() -> ExitCode {
     let raced = match which.as_str() {
         "decode" => decoding::races(),
         "codes" => codes::races(),
-        "all" => decoding::races().and_then(|()| codes::races()),
-        _ => Err(format!("no races are named {which}: decode, codes or all")),
+        "listing" => listings::races(),
+        "all" => decoding::races().and_then(|()| codes::races()).and_then(|()| listings::races()),
+        _ => Err(format!("no races are named {which}: decode, codes, listing or all")),
     };
     match raced {
         Ok(()) => ExitCode::SUCCESS,

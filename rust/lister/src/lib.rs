@@ -19,11 +19,8 @@ pub fn program() -> PathBuf {
 
 /// What the program prints for a capture that reaches it in pieces of so many bytes.
 pub fn listed_in_pieces(capture: &[u8], piece: usize) -> String {
-    let mut child = Command::new(program())
-        .stdin(Stdio::piped())
-        .stdout(Stdio::piped())
-        .spawn()
-        .expect("the program starts");
+    let mut child =
+        Command::new(program()).stdin(Stdio::piped()).stdout(Stdio::piped()).spawn().expect("the program starts");
     let mut input = child.stdin.take().expect("its input");
     let bytes = capture.to_vec();
     let writer = thread::spawn(move || {

@@ -16,7 +16,9 @@ fn the_example_of_the_paper() {
 
 #[test]
 fn headers() {
-    for wrong in [&b""[..], b"W", b"WM", b"WMR", b"WMR\0", b"wmr\0\x01", b"WMR\x01\0", b"WMR\0\x02", b"WMR\0\x02WMR\0\x01"] {
+    for wrong in
+        [&b""[..], b"W", b"WM", b"WMR", b"WMR\0", b"wmr\0\x01", b"WMR\x01\0", b"WMR\0\x02", b"WMR\0\x02WMR\0\x01"]
+    {
         assert_eq!(listed(wrong), "file refused 15\n", "{wrong:?}");
     }
     assert_eq!(listed(&HEADER), "0 records, 0 accepted\n");

@@ -1,16 +1,29 @@
 //! The meter listing of a capture.
 
-use crate::{decode_profile, profile, read_message, Profile, Workspace};
+use crate::{decode_profile, plain, profile, read_message, Profile, Workspace};
 use std::fmt::Write;
+
+/// Decodes a block of a profile into the output; the refusal, or 0.
+type Decode<'a> = &'a mut dyn FnMut(usize, &[u8], &mut [u8]) -> u8;
 
 const HEADER: [u8; 5] = [b'W', b'M', b'R', 0, 1];
 
 /// The whole listing.
 pub fn listing(capture: &[u8]) -> String {
+    let mut work = Workspace::new();
+    listing_by(capture, &mut |number, word, out| decode_profile(number, word, out, &mut work).refusal)
+}
+
+/// The same over the plain decoder.
+pub fn plain_listing(capture: &[u8]) -> String {
+    let mut work = plain::Workspace::default();
+    listing_by(capture, &mut |number, word, out| plain::decode_profile(number, word, out, &mut work).refusal)
+}
+
+fn listing_by(capture: &[u8], decode: Decode) -> String {
     let Some(mut records) = capture.strip_prefix(&HEADER) else {
         return "file refused 15\n".to_string();
     };
-    let mut work = Workspace::new();
     let mut text = String::new();
     let (mut lines, mut accepted) = (0u64, 0u64);
     while !records.is_empty() {
@@ -18,7 +31,7 @@ pub fn listing(capture: &[u8]) -> String {
         let Some((serial, profile, bits, rest)) = record(records, &mut text) else {
             break;
         };
-        accepted += line(serial, profile, bits, &mut work, &mut text) as u64;
+        accepted += line(serial, profile, bits, decode, &mut text) as u64;
         records = rest;
     }
     let _ = writeln!(text, "{lines} records, {accepted} accepted");
@@ -45,15 +58,15 @@ fn record<'a>(records: &'a [u8], text: &mut String) -> Option<(u32, usize, &'a [
 }
 
 /// One record's line; whether it was accepted.
-fn line(serial: u32, number: usize, bits: &[u8], work: &mut Workspace, text: &mut String) -> bool {
+fn line(serial: u32, number: usize, bits: &[u8], decode: Decode, text: &mut String) -> bool {
     let (mut word, mut decoded, mut message) = ([0; 256], [0; 256], [0; 256]);
     let n = 8 * bits.len();
     for (p, bit) in word[..n].iter_mut().enumerate() {
         *bit = bits[p / 8] >> (7 - p % 8) & 1;
     }
-    let answer = decode_profile(number, &word[..n], &mut decoded[..n], work);
-    if answer.refusal != 0 {
-        let _ = writeln!(text, "{serial:010} refused {}", answer.refusal);
+    let refusal = decode(number, &word[..n], &mut decoded[..n]);
+    if refusal != 0 {
+        let _ = writeln!(text, "{serial:010} refused {refusal}");
         return false;
     }
     let k = [6, 22, 29, 37, 93][number];

@@ -2,7 +2,6 @@
 
 use super::cosets::{self, Rows};
 use super::leaf;
-use crate::reading::least_leaves;
 
 /// What the reading at one depth keeps; the first row is the word.
 pub struct Level {
@@ -40,7 +39,11 @@ impl Reader {
         }
     }
 
+    /// Counted one by one, and stopped at the leaf limit.
     fn order_one(&mut self, word: &mut [u8]) -> u8 {
+        if self.leaves == self.leaf_limit {
+            return 12;
+        }
         self.leaves += 1;
         if leaf::nearest(word) {
             0
@@ -49,18 +52,10 @@ impl Reader {
         }
     }
 
-    /// A codeword settles in one round at every depth, so its leaves are known without reading them.
     fn rounds(&mut self, m: usize, r: usize, levels: &mut [Level]) -> (u8, usize) {
-        let (n, least) = (1 << m, least_leaves(m, r));
+        let n = 1 << m;
         for round in 1..=self.round_limit {
-            if self.leaves + least > self.leaf_limit {
-                return (12, 0);
-            }
             let level = &mut levels[0];
-            if cosets::is_codeword(r, &level.rows[0][..n]) {
-                self.leaves += least;
-                return (0, round);
-            }
             cosets::fill_rows(n, &mut level.rows);
             level.votes.iter_mut().for_each(|row| row[..n].fill(0));
             if !(1..n).all(|b| self.direction(m, r, b, levels)) {
@@ -68,7 +63,8 @@ impl Reader {
             }
             let level = &mut levels[0];
             if !cosets::flip(&mut level.rows[0][..n], &level.votes) {
-                return (11, round);
+                let settled = cosets::is_codeword(r, &level.rows[0][..n]);
+                return (if settled { 0 } else { 11 }, round);
             }
         }
         (10, self.round_limit)
