@@ -1,20 +1,19 @@
 -- What passed checks say of a call's input, and the round trip of calls: what `encode` wrote, `read_message` gives back, and the other way
 -- round. Assumes nothing.
-use Prim.Native.Nat.{ℕ, _^_, _≤_, _<_}
+use Prim.Native.Nat.{ℕ, _^_, _<_}
 use native.Mathlib.Omega.{arith}
 use mathlib.Core.Path.{_≡_, refl, sym, ap, _∙_}
 use mathlib.Core.Bool.{Bool, true, false}
-use mathlib.Core.List.{List, [], _∷_, _++_}
+use mathlib.Core.List.{List, _++_}
 use lib.ListN.{length}
-use lib.Dec.{eqb}
-use borrow.Author.Tests.{eqb-true, eq-eqb, ne-eqb}
+use borrow.Author.Tests.{eqb-true, ne-eqb}
 use Rattle.refusals.specs.declared.Refusal.{Refusal}
 use Rattle.refusals.specs.declared.Answer.{Answer}
 use Rattle.refusals.specs.declared.Answer.the-variants.{Done, Refused}
 use Rattle.refusals.specs.Refusals.{Check, Checked, numberOf, answerNumber, firstRefusal}
 use Rattle.refusals.specs.CheckLaws.{passed, IsCode, code-passed, bits-tested, number-pos, other-place}
 use Rattle.words.specs.Word.{bit, IsWord}
-use Rattle.code.specs.Code.{IsCodeword, rank, dimension, codeword, codewordTest, messageOf}
+use Rattle.code.specs.Code.{rank, dimension, codeword, codewordTest, messageOf}
 use Rattle.code.specs.Codewords.{codeword-of-test}
 use Rattle.code.specs.MessageLaws.{message-codeword, codeword-message}
 use Rattle.code.specs.Calls.{encodeChecks, wordChecks, testChecks, Calls, Encodes, Reads, Tests, testedNumber, verdict}
@@ -55,10 +54,6 @@ test-done {m} {r} {word} {a} e h = record { number = rw h (verdict-number (codew
 -- ---- what passed
 
 -- k, as the code takes it
-pub dimension-is : (m r : ℕ) {n k : ℕ} → n ≡ 2 ^ m → k ≡ rank r n → k ≡ dimension m r
-unfolding dimension
-dimension-is m r e f = f ∙ ap (rank r) e
-
 pub rank-is : (m r : ℕ) {n k : ℕ} → k ≡ dimension m r → n ≡ 2 ^ m → k ≡ rank r n
 unfolding dimension
 rank-is m r e f = e ∙ ap (rank r) (sym f)

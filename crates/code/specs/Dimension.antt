@@ -1,6 +1,7 @@
--- "k the sum of the binomials of m over 0 to r". Assumes nothing.
-use Prim.Native.Nat.{ℕ, zero, suc, _+_, _^_}
-use native.Mathlib.Nat.{add-zero}
+-- "k the sum of the binomials of m over 0 to r", and each binomial from the one before. Assumes nothing.
+use Prim.Native.Nat.{ℕ, zero, suc, _+_, _*_, _-_, _/_, _^_, _≤_}
+use native.Mathlib.Nat.{add-zero, add-mul, mul-add, mul-suc, mul-div-cancel, pow-le-pow-right}
+use native.Mathlib.Numerals.{add-one}
 use native.Mathlib.Omega.{arith}
 use mathlib.Core.Path.{_≡_, refl, sym, ap, ap₂, _∙_}
 use mathlib.Core.Bool.{Bool}
@@ -50,3 +51,34 @@ unfolding dimension rank total ones choose
 dimension-choose zero r = (ap (λ (t : Bool). 0 + indicator t) (leb·zero r) ∙ sym (choose-zero r))
 dimension-choose (suc m) zero = dimension-constant m ∙ dimension-choose m zero
 dimension-choose (suc m) (suc r) = dimension-suc m r ∙ ap₂ _+_ (dimension-choose m (suc r)) (dimension-choose m r) ∙ sym (choose-sum m r)
+
+-- ---- binomials one after the other
+
+choose-turn : (x y z k n : ℕ) → y * suc k + x * k ≡ x * n → z * suc (suc k) + y * suc k ≡ y * n → (y + z) * suc (suc k) + (x + y) * suc k ≡ (x + y) * suc n
+choose-turn x y z k n e f =
+    let e′ = simp (mul-suc, add-mul) at e in
+    let f′ = simp (mul-suc, add-mul) at f in
+    simp (mul-suc, add-mul) (omega arith)
+
+choose-suc : (n k : ℕ) → choose n (suc k) * suc k + choose n k * k ≡ choose n k * n
+unfolding choose
+choose-suc zero zero = refl
+choose-suc zero (suc k) = omega arith
+choose-suc (suc n) zero = omega (arith, choose-suc n zero)
+choose-suc (suc n) (suc k) = choose-turn (choose n k) (choose n (suc k)) (choose n (suc (suc k))) k n (choose-suc n k) (choose-suc n (suc k))
+
+pub choose-next : (n k : ℕ) → k ≤ n → choose n k * (n - k) / (k + 1) ≡ choose n (k + 1)
+choose-next n k l =
+    let j : n - k + k ≡ n = omega arith in
+    let e : choose n k * (n - k) ≡ choose n (suc k) * suc k = omega (arith, choose-suc n k, mul-add (choose n k) (n - k) k, ap (λ (x : ℕ). choose n k * x) j) in
+    rw (e, add-one) (mul-div-cancel _ (omega arith))
+
+choose-le : (n k : ℕ) → choose n k ≤ 2 ^ n
+unfolding choose
+choose-le zero zero = omega arith
+choose-le zero (suc k) = omega arith
+choose-le (suc n) zero = omega (arith, choose-le n zero)
+choose-le (suc n) (suc k) = omega (arith, choose-le n k, choose-le n (suc k))
+
+pub choose-small : (n k : ℕ) → n ≤ 10 → choose n k ≤ 1024
+choose-small n k l = omega (arith, choose-le n k, pow-le-pow-right {n = 2} (omega arith) l)

@@ -1,6 +1,7 @@
--- Definitions: Code, Calls. The rest are laws.
+-- Definitions: Code, Calls, DegreeTable, Numbers. The rest are laws.
 pub mod Code
 pub mod Calls
+pub mod DegreeTable
 pub mod Degree
 pub mod Affine
 pub mod Shift

@@ -10,6 +10,7 @@ use borrow.Rule.Slice.PartMut.{putMid}
 use lib.Bits.{bitXor}
 use lib.Dec.{eqb, leb}
 use lib.IntN.{ℤ, pos, natAbs}
+use lib.Pow.{pow-mono}
 use lib.ListN.{length, set, take, drop, List·getD-eq-default}
 use mir.Syntax.{w32}
 use mir.Val.{toZ, ofZ}
@@ -120,9 +121,11 @@ module _ (m n : ℕ) (xs ys : List ℤ) (en : n ≡ 2 ^ m) (long : n + n ≤ len
     again = back-part (pos 0) n k ys room v size
 
     pub work-bits :
-        Bits (length (take (n + n - n) (drop n (putMid n (n + n - n) ys v)))) (take (n + n - n) (drop n (putMid n (n + n - n) ys v)))
+        m ≤ 10
+        → (length (take (n + n - n) (drop n (putMid n (n + n - n) ys v))) ≤ 1024)
+        × Bits (length (take (n + n - n) (drop n (putMid n (n + n - n) ys v)))) (take (n + n - n) (drop n (putMid n (n + n - n) ys v)))
     unfolding numberParities
-    work-bits = rw again record { room = omega arith; bits = λ p l. done .room .each p }
+    work-bits h = rw again (rw (done .size) (pow-mono {j = 10} h), record { room = omega arith; bits = λ p l. done .room .each p })
 
     pub area-tested :
         (r : ℕ) (t : Bool)

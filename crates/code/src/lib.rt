@@ -10,9 +10,10 @@ ghost use Rattle.words.specs.Sum.{tabulate};
 ghost use Rattle.words.specs.Word.{IsWord};
 ghost use Rattle.code.specs.Code.{coefficient, dimension, codewordTest, messageOf};
 ghost use Rattle.code.specs.Calls.{Encodes, Reads, Tests, encodeChecks, wordChecks, testChecks};
+use message::degrees;
+use message::dimension;
 use message::gather;
 use message::is_low;
-use message::rank;
 use message::spread;
 use refusals::Answer;
 use refusals::Refusal;
@@ -50,7 +51,7 @@ fn check_message(m: usize, r: usize, message: &[u8], room: usize) -> Answer
         return Answer::Refused(why);
     }
     let n = words::size(m);
-    check_buffers(message, rank(r, n), room, n)
+    check_buffers(message, dimension(m, r), room, n)
 }
 
 // The refusals of the message reader but 13, with an output of `room` bytes.
@@ -62,7 +63,7 @@ fn check_codeword(m: usize, r: usize, word: &[u8], room: usize) -> Answer
         return Answer::Refused(why);
     }
     let n = words::size(m);
-    check_buffers(word, n, room, rank(r, n))
+    check_buffers(word, n, room, dimension(m, r))
 }
 
 // The refusals of the codeword test.
@@ -87,14 +88,16 @@ pub fn encode(m: usize, r: usize, message: &[u8], out: &mut [u8]) -> Answer
     if let Answer::Refused(why) = checked {
         return Answer::Refused(why);
     }
-    spread(r, message, out);
+    let mut d = [0u8; 1024];
+    degrees(&mut d, out.len());
+    spread(r, &d, message, out);
     transform::transform(out, m);
     Answer::Done
 }
 
 // The coefficients of a word in t, and whether those of degree above r are 0.
 fn test_in(m: usize, r: usize, word: &[u8], t: &mut [u8]) -> bool
-    requires { ⌜ (m ≤ 10) × IsWord m (now word) × (length (now t) ≡ 2 ^ m) ⌝ }
+    requires { ⌜ (m ≤ 10) × (r ≤ 10) × IsWord m (now word) × (length (now t) ≡ 2 ^ m) ⌝ }
     ensures { λ b. ⌜ (b ≡ codewordTest m r (now (word .entry))) × (now (t .exit) ≡ tabulate (2 ^ m) (coefficient m (now (word .entry)))) ⌝ }
 {
     words::copy(word, t);
@@ -104,11 +107,13 @@ fn test_in(m: usize, r: usize, word: &[u8], t: &mut [u8]) -> bool
 
 // The message of a codeword in out, by way of t; false where the word is no codeword.
 fn read_in(m: usize, r: usize, word: &[u8], t: &mut [u8], out: &mut [u8]) -> bool
-    requires { ⌜ (m ≤ 10) × IsWord m (now word) × (length (now t) ≡ 2 ^ m) × (length (now out) ≡ dimension m r) ⌝ }
+    requires { ⌜ (m ≤ 10) × (r ≤ 10) × IsWord m (now word) × (length (now t) ≡ 2 ^ m) × (length (now out) ≡ dimension m r) ⌝ }
     ensures { λ b. ⌜ (b ≡ codewordTest m r (now (word .entry))) × (now (out .exit) ≡ cond b (messageOf m r (now (word .entry))) (now (out .entry))) ⌝ }
 {
     if test_in(m, r, word, t) {
-        gather(r, t, out);
+        let mut d = [0u8; 1024];
+        degrees(&mut d, t.len());
+        gather(r, &d, t, out);
         true
     } else {
         false

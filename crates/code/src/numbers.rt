@@ -53,17 +53,14 @@ fn copy_on(area: &mut [i32], n: usize)
 
 // Whether the bits at the masks of degree above r are 0.
 fn is_low(r: usize, a: &[i32]) -> bool
-    requires { ⌜ Bits (length (now a)) (now a) ⌝ }
+    requires { ⌜ (length (now a) ≤ 1024) × Bits (length (now a)) (now a) ⌝ }
     ensures { λ b. ⌜ b ≡ lowTest r (sizeAt (now (a .entry))) (length (now (a .entry))) ⌝ }
 {
+    let mut low = true;
     for p in 0..a.len() {
-        if r < degree(p) {
-            if a[p] != 0 {
-                return false;
-            }
-        }
+        low = low & ((degree(p) as usize <= r) | (a[p] == 0));
     }
-    true
+    low
 }
 
 // Whether the word of exponent m in the front of the area is a codeword of order r. The numbers after it are worked in.

@@ -1,7 +1,8 @@
--- One turn of the loops of `project` and `add_votes`: the two members of coset q and their bits. Assumes nothing.
-use Prim.Native.Nat.{ℕ, suc, _+_, _%_, _^_, _≤_, _<_}
-use mathlib.Core.Path.{_≡_, refl, sym, ap, _∙_}
+-- One turn of the loops over cosets: the two members of coset q and their bits. Assumes nothing.
+use Prim.Native.Nat.{ℕ, suc, _^_, _≤_, _<_}
+use mathlib.Core.Path.{_≡_, sym, ap, _∙_}
 use mathlib.Core.List.{List}
+use mathlib.Core.Logic.{_⊎_, inl, inr}
 use native.Mathlib.Omega.{arith}
 use lib.Bits.{bitXor, xor-lt}
 use lib.Pow.{pow-mono}
@@ -9,10 +10,12 @@ use lib.IntN.{ℤ, pos, natAbs}
 use mir.Syntax.{w32}
 use mir.Val.{toZ, ofZ}
 use Rattle.words.specs.Word.{bit}
+use Rattle.words.specs.Xor.{xor-twice}
 use Rattle.area.specs.Area.{at, IsBit, wordOf}
 use Rattle.area.specs.AreaLaws.{bit-wordOf, is-bit, bit-back, xor-stored}
-use Rattle.direction.specs.Direction.{highest, insertZero, project}
+use Rattle.direction.specs.Direction.{cosetOf, highest, insertZero, project}
 use Rattle.direction.specs.Insert.{Top, highest-top, insert-lt}
+use Rattle.direction.specs.Cosets.{by-coset, insert-coset, coset-same, coset-insert}
 use Rattle.direction.specs.Projected.{bit-project, word-project}
 use Rattle.direction.specs.Votes.{Projects}
 
@@ -53,3 +56,18 @@ module _ {m b : ℕ} {xs : List ℤ} (asks : Projects m b xs) where
 
     pub pair-value : toZ w32 (bitXor (ofZ w32 (at ys p)) (ofZ w32 (at ys (bitXor p b)))) ≡ pos (bit (project m b (wordOf (2 ^ suc m) xs)) q)
     pair-value = ap (toZ w32) pair-sum ∙ bit-back (is-bit _ (word-project m b (wordOf (2 ^ suc m) xs) .bits q))
+
+-- p and p XOR b have coset q's number, and no other place has it
+module _ {m b q p : ℕ} {xs : List ℤ} (asks : Projects m b xs) (t : Members m b q p) where
+  pub number-one : cosetOf b p ≡ q
+  number-one = ap (cosetOf b) (t .inserted) ∙ coset-insert b q
+
+  pub number-two : cosetOf b (bitXor p b) ≡ q
+  number-two = coset-same b (direction-top asks) p ∙ number-one
+
+  pub only-members : (r : ℕ) → cosetOf b r ≡ q → (r ≡ p) ⊎ (r ≡ bitXor p b)
+  only-members r e =
+      by-coset b (direction-top asks) r (λ (x : ℕ). p ≡ x → (r ≡ p) ⊎ (r ≡ bitXor p b))
+      (λ _ k. inl (sym k))
+      (λ _ k. inr (sym (xor-twice r b) ∙ ap (λ (x : ℕ). bitXor x b) (sym k)))
+      (t .inserted ∙ ap (insertZero (highest b)) (sym e) ∙ insert-coset b (direction-top asks) r)

@@ -1,8 +1,8 @@
--- The loop of `add_votes` over the cosets: its invariant, and a turn that adds the vote of coset q at both members. Assumes nothing.
+-- The loops over the cosets that add votes: their invariant, and a turn that adds the vote of coset q at both members. Assumes nothing.
 use Prim.Native.Nat.{ℕ, suc, _+_, _*_, _%_, _^_, _≤_, _<_}
 use mathlib.Core.Path.{_≡_, refl, sym, ap, _∙_}
 use mathlib.Core.List.{List}
-use mathlib.Core.Logic.{_≢_, _⊎_, inl, inr, ⊎-elim}
+use mathlib.Core.Logic.{_≢_, ⊎-elim}
 use native.Mathlib.Decide.{ℕ-discrete}
 use native.Mathlib.Nat.{add-comm}
 use native.Mathlib.Omega.{arith}
@@ -14,16 +14,15 @@ use mir.Syntax.{w32}
 use mir.Val.{SFits, toZ, ofZ}
 use Rattle.words.specs.Word.{bit}
 use Rattle.words.specs.Written.{Written}
-use Rattle.words.specs.Xor.{xor-assoc, xor-twice}
+use Rattle.words.specs.Xor.{xor-assoc}
 use Rattle.area.specs.Area.{at, wordOf}
 use Rattle.area.specs.AreaLaws.{is-bit, xor-stored}
 use Rattle.area.specs.Numbers.{stored, Half, sum-fits, sum-stored}
-use Rattle.direction.specs.Direction.{highest, insertZero, cosetOf, project}
-use Rattle.direction.specs.Insert.{Top}
+use Rattle.direction.specs.Direction.{cosetOf, project}
 use Rattle.direction.specs.Projected.{word-project}
-use Rattle.direction.specs.Cosets.{by-coset, insert-coset, coset-lt, coset-same, coset-insert}
+use Rattle.direction.specs.Cosets.{coset-lt}
 use Rattle.direction.specs.Votes.{Projects, Tally, InProjection, castVote}
-use Rattle.direction.proofs.Turns.{Members, direction-lt, direction-top, pair-sum}
+use Rattle.direction.proofs.Turns.{Members, direction-lt, direction-top, pair-sum, number-one, number-two, only-members}
 
 -- ys is xs with the votes of the cosets numbered below q
 pub record VotedBelow (m b : ℕ) (xs : List ℤ) (q : ℕ) (ys : List ℤ) : Type 0 where
@@ -63,23 +62,13 @@ pub record Turn (m b : ℕ) (xs : List ℤ) (n q p : ℕ) (ys : List ℤ) : Type
   pub voted : VotedBelow m b xs q ys
 
 module _ {m b n q p : ℕ} {xs ys : List ℤ} (t : Turn m b xs n q p ys) where
-  top : Top (highest b) b
-  top = direction-top (t .asks)
+  -- ---- p and p XOR b are two places of coset q
 
-  -- ---- p and p XOR b are two places, and coset q has no others
+  one-of : cosetOf b p ≡ q
+  one-of = number-one (t .asks) (t .coset)
 
-  number-one : cosetOf b p ≡ q
-  number-one = ap (cosetOf b) (t .coset .inserted) ∙ coset-insert b q
-
-  number-two : cosetOf b (bitXor p b) ≡ q
-  number-two = coset-same b top p ∙ number-one
-
-  only-members : (r : ℕ) → cosetOf b r ≡ q → (r ≡ p) ⊎ (r ≡ bitXor p b)
-  only-members r e =
-      by-coset b top r (λ (x : ℕ). p ≡ x → (r ≡ p) ⊎ (r ≡ bitXor p b))
-      (λ _ k. inl (sym k))
-      (λ _ k. inr (sym (xor-twice r b) ∙ ap (λ (x : ℕ). bitXor x b) (sym k)))
-      (t .coset .inserted ∙ ap (insertZero (highest b)) (sym e) ∙ insert-coset b top r)
+  two-of : cosetOf b (bitXor p b) ≡ q
+  two-of = number-two (t .asks) (t .coset)
 
   two-places : bitXor p b ≢ p
   two-places e =
@@ -133,12 +122,12 @@ module _ {m b n q p : ℕ} {xs ys : List ℤ} (t : Turn m b xs n q p ys) where
   apart e = two-places (omega arith)
 
   votes-one : at ys (2 * n + p) ≡ at xs (2 ^ suc m + p)
-  votes-one = rw start (t .voted .ahead p (t .coset .place) (omega (arith, number-one)))
+  votes-one = rw start (t .voted .ahead p (t .coset .place) (omega (arith, one-of)))
 
   votes-two : at first (2 * n + bitXor p b) ≡ at xs (2 ^ suc m + bitXor p b)
   votes-two =
       getD-set-other ys (2 * n + p) (2 * n + bitXor p b) _ (pos 0) apart
-      ∙ rw start (t .voted .ahead (bitXor p b) (t .coset .partner) (omega (arith, number-two)))
+      ∙ rw start (t .voted .ahead (bitXor p b) (t .coset .partner) (omega (arith, two-of)))
 
   pub one-fits : SFits w32 (stored (at ys (2 * n + p)) +ℤ toZ w32 cast)
   one-fits = added-fits p (t .coset .place) (at ys (2 * n + p)) votes-one
@@ -167,10 +156,10 @@ module _ {m b n q p : ℕ} {xs ys : List ℤ} (t : Turn m b xs n q p ys) where
 
   now-voted : (r : ℕ) → r < 2 ^ suc m → cosetOf b r < q + 1 → at second (2 ^ suc m + r) ≡ at xs (2 ^ suc m + r) +ℤ pos (castVote m b xs r)
   now-voted r l c = elim (ℕ-discrete (cosetOf b r) q) [
-    | yes e ↦ ⊎-elim (λ u. member-voted p at-one r u e) (λ u. member-voted (bitXor p b) at-two r u e) (only-members r e)
+    | yes e ↦ ⊎-elim (λ u. member-voted p at-one r u e) (λ u. member-voted (bitXor p b) at-two r u e) (only-members (t .asks) (t .coset) r e)
     | no k ↦ others (2 ^ suc m + r)
-        (λ e. k (ap (cosetOf b) (omega arith) ∙ number-one))
-        (λ e. k (ap (cosetOf b) (omega arith) ∙ number-two))
+        (λ e. k (ap (cosetOf b) (omega arith) ∙ one-of))
+        (λ e. k (ap (cosetOf b) (omega arith) ∙ two-of))
         ∙ t .voted .done r l (omega arith)
   ]
 
@@ -179,8 +168,8 @@ module _ {m b n q p : ℕ} {xs ys : List ℤ} (t : Turn m b xs n q p ys) where
     long = length-set first _ _ ∙ length-set ys _ _ ∙ t .voted .long;
     done = now-voted;
     ahead = λ r l c. others (2 ^ suc m + r)
-        (λ e. omega (arith, ap (cosetOf b) {x = r} {y = p} (omega arith), number-one))
-        (λ e. omega (arith, ap (cosetOf b) {x = r} {y = bitXor p b} (omega arith), number-two))
+        (λ e. omega (arith, ap (cosetOf b) {x = r} {y = p} (omega arith), one-of))
+        (λ e. omega (arith, ap (cosetOf b) {x = r} {y = bitXor p b} (omega arith), two-of))
         ∙ t .voted .ahead r l (omega arith);
     below = λ r l. others r (λ e. omega arith) (λ e. omega arith) ∙ t .voted .below r l;
     above = λ r l. others r (λ e. omega arith) (λ e. omega arith) ∙ t .voted .above r l;

@@ -6,6 +6,7 @@ use mathlib.Core.List.{List, [], _∷_, _++_}
 use mathlib.Core.Logic.{_⊎_, inl, inr, ⊎-elim}
 use native.Mathlib.Nat.{add-zero, add-suc, add-assoc, not-suc-le-zero, le-of-suc-le-suc, eq-or-lt-of-le, le-refl, add-le-add, mul-zero}
 use native.Mathlib.Decide.{le-ind}
+use native.Mathlib.Numerals.{add-one}
 use native.Mathlib.Omega.{arith}
 use lib.ListN.{length, getD, length-append, List·getD-append}
 use lib.Seq.{getD-at, ext-getD}
@@ -114,6 +115,15 @@ pub true-all : (n : ℕ) (f : ℕ → Bool) → ((i : ℕ) → i < n → f i ≡
 unfolding total
 true-all zero f h = refl
 true-all (suc n) f h = rw (true-all n f (λ i l. h i (omega arith))) (h n (omega arith))
+
+-- a loop that makes every test
+pub all-none : (f : ℕ → Bool) → true ≡ allBelow 0 f
+unfolding total
+all-none f = refl
+
+pub all-more : (n : ℕ) (f : ℕ → Bool) (b : Bool) → b ≡ allBelow n f → b && f n ≡ allBelow (n + 1) f
+unfolding total
+all-more n f b e = rw (add-one, e)
 
 -- one that fails
 pub some-false : (n : ℕ) (f : ℕ → Bool) (i : ℕ) → i < n → f i ≡ false → allBelow n f ≡ false

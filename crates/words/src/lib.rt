@@ -2,7 +2,9 @@
 ghost use mathlib.Core.Path.{_≡_};
 ghost use Prim.Native.Nat.{_^_, _≤_};
 ghost use lib.ListN.{length};
-ghost use Rattle.words.specs.Word.{Scanned};
+ghost use lib.Dec.{ltb};
+ghost use Rattle.words.specs.Sum.{allBelow};
+ghost use Rattle.words.specs.Word.{Scanned, bit};
 
 // The number of places of a word of exponent m.
 pub fn size(m: usize) -> usize
@@ -12,10 +14,24 @@ pub fn size(m: usize) -> usize
     1 << m
 }
 
+// Whether every byte is 0 or 1.
+fn all_bits(s: &[u8]) -> bool
+    ensures { λ b. ⌜ b ≡ allBelow (length (now (s .entry))) (λ p. ltb (bit (now (s .entry)) p) 2) ⌝ }
+{
+    let mut all = true;
+    for p in 0..s.len() {
+        all = all & (s[p] < 2);
+    }
+    all
+}
+
 // The first place whose byte is above 1, or the length of s.
 pub fn bad_place(s: &[u8]) -> usize
     ensures { λ p. ⌜ Scanned (now (s .entry)) p ⌝ }
 {
+    if all_bits(s) {
+        return s.len();
+    }
     let mut p = 0;
     while p < s.len() {
         if 1 < s[p] {

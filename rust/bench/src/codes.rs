@@ -3,6 +3,7 @@
 use crate::race::{race, Given, Runner};
 use check::blocks;
 use check::random::Random;
+use opponent::plain;
 
 const M: usize = 10;
 
@@ -28,40 +29,59 @@ impl<F: FnMut(&[u8], &mut [u8]) -> (u64, u64)> Runner for Coding<F> {
     }
 }
 
-fn library<'a>(length: usize, mut call: impl FnMut(&[u8], &mut [u8]) -> calls::Answer + 'a) -> Box<dyn Runner + 'a> {
-    let call = move |block: &[u8], out: &mut [u8]| {
-        let answer = call(block, out);
-        (answer.refusal as u64, answer.rounds as u64)
-    };
-    Box::new(Coding { name: "library", call, out: vec![0; length], answer: (0, 0) })
+fn runner<'a>(
+    name: &'static str,
+    length: usize,
+    call: impl FnMut(&[u8], &mut [u8]) -> (u64, u64) + 'a,
+) -> Box<dyn Runner + 'a> {
+    Box::new(Coding { name, call, out: vec![0; length], answer: (0, 0) })
 }
 
-fn packed<'a>(length: usize, mut call: impl FnMut(&[u8], &mut [u8]) -> opponent::Answer + 'a) -> Box<dyn Runner + 'a> {
-    let call = move |block: &[u8], out: &mut [u8]| {
+fn library<'a>(length: usize, mut call: impl FnMut(&[u8], &mut [u8]) -> calls::Answer + 'a) -> Box<dyn Runner + 'a> {
+    runner("library", length, move |block, out| {
         let answer = call(block, out);
         (answer.refusal as u64, answer.rounds as u64)
-    };
-    Box::new(Coding { name: "packed", call, out: vec![0; length], answer: (0, 0) })
+    })
+}
+
+fn opponent<'a>(
+    name: &'static str,
+    length: usize,
+    mut call: impl FnMut(&[u8], &mut [u8]) -> opponent::Answer + 'a,
+) -> Box<dyn Runner + 'a> {
+    runner(name, length, move |block, out| {
+        let answer = call(block, out);
+        (answer.refusal as u64, answer.rounds as u64)
+    })
+}
+
+fn order_races(r: usize) -> Result<(), String> {
+    let (n, k) = (1 << M, message_bits(r));
+    let mut random = Random::new(200 + r as u64);
+    let words: Vec<Vec<u8>> = (0..16).map(|_| blocks::codeword(&mut random, M, r)).collect();
+    let messages: Vec<Vec<u8>> = (0..16).map(|_| random.bits(k)).collect();
+    let encoders = vec![
+        library(n, |message, out| calls::encode(M, r, message, out)),
+        opponent("plain", n, |message, out| plain::encode(M, r, message, out)),
+        opponent("packed", n, |message, out| opponent::encode(M, r, message, out)),
+    ];
+    race(&format!("encode (m {M}, r {r})"), encoders, &messages)?;
+    let readers = vec![
+        library(k, |word, out| calls::read_message(M, r, word, out)),
+        opponent("plain", k, |word, out| plain::read_message(M, r, word, out)),
+        opponent("packed", k, |word, out| opponent::read_message(M, r, word, out)),
+    ];
+    race(&format!("read a message (m {M}, r {r})"), readers, &words)?;
+    let tests = vec![
+        library(0, |word, _| calls::is_codeword(M, r, word)),
+        opponent("plain", 0, |word, _| plain::is_codeword(M, r, word)),
+        opponent("packed", 0, |word, _| opponent::is_codeword(M, r, word)),
+    ];
+    race(&format!("test a codeword (m {M}, r {r})"), tests, &words)
 }
 
 pub fn races() -> Result<(), String> {
-    let n = 1 << M;
-    for r in [2, 5, 8] {
-        let mut random = Random::new(200 + r as u64);
-        let words: Vec<Vec<u8>> = (0..16).map(|_| blocks::codeword(&mut random, M, r)).collect();
-        let k = message_bits(r);
-        let messages: Vec<Vec<u8>> = (0..16).map(|_| random.bits(k)).collect();
-        let a = library(n, |message, out| calls::encode(M, r, message, out));
-        let b = packed(n, |message, out| opponent::encode(M, r, message, out));
-        race(&format!("encode (m {M}, r {r})"), vec![a, b], &messages)?;
-        let a = library(k, |word, out| calls::read_message(M, r, word, out));
-        let b = packed(k, |word, out| opponent::read_message(M, r, word, out));
-        race(&format!("read a message (m {M}, r {r})"), vec![a, b], &words)?;
-        let a = library(0, |word, _| calls::is_codeword(M, r, word));
-        let b = packed(0, |word, _| opponent::is_codeword(M, r, word));
-        race(&format!("test a codeword (m {M}, r {r})"), vec![a, b], &words)?;
-    }
-    Ok(())
+    [2, 5, 8].into_iter().try_for_each(order_races)
 }
 
 /// The number of masks of degree at most r.

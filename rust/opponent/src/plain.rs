@@ -1,11 +1,14 @@
-//! The same decoder with one number for each place and loops that follow the rule step by step.
+//! The same codes and the same decoder with one number for each place and loops that follow the rule step by step.
 
+mod codes;
 mod cosets;
 mod leaf;
 mod reading;
 
 use crate::call::{check_decoding, Answer};
 use crate::profiles::profile;
+use codes::bad_byte;
+pub use codes::{encode, is_codeword, read_message};
 use reading::Reader;
 pub use reading::Workspace;
 
@@ -23,8 +26,8 @@ pub fn decode(
         0 => {}
         refusal => return Answer::refused(refusal),
     }
-    if word.iter().fold(0, |all, byte| all | byte) > 1 {
-        return Answer::bad_byte(word.iter().position(|byte| *byte > 1).unwrap_or(0));
+    if let Some(place) = bad_byte(word) {
+        return Answer::bad_byte(place);
     }
     work.levels[0].rows[0][..word.len()].copy_from_slice(word);
     let mut reader = Reader { round_limit: rounds, leaf_limit: leaves as u64, leaves: 0 };

@@ -1,6 +1,6 @@
-//! The decoder written for speed against the second one.
+//! The decoder written for speed, and both forms of the codes, against the second one.
 
-use opponent::Workspace;
+use opponent::{plain, Answer, Workspace};
 use second::message_bits;
 use second::{code, Fault, Second};
 
@@ -71,22 +71,35 @@ fn decoding() {
     }
 }
 
-#[test]
-fn codes() {
+type Call = fn(usize, usize, &[u8], &mut [u8]) -> Answer;
+type Test = fn(usize, usize, &[u8]) -> Answer;
+
+/// A message there and back, and its codeword with one place wrong, at every exponent and order.
+fn codes_of(encode: Call, read_message: Call, is_codeword: Test) {
     let mut both = Both::new(12);
     for m in 1..=10 {
         for r in 0..=m {
             let k = message_bits(m, r);
             let message = both.random.bits(k);
             let (mut word, mut read) = (vec![7; 1 << m], vec![7; k]);
-            assert_eq!(opponent::encode(m, r, &message, &mut word).refusal, 0);
+            assert_eq!(encode(m, r, &message, &mut word).refusal, 0);
             assert_eq!(word, code::codeword(m, r, &message, Fault::None));
-            assert_eq!(opponent::read_message(m, r, &word, &mut read).refusal, 0);
+            assert_eq!(read_message(m, r, &word, &mut read).refusal, 0);
             assert_eq!(read, message);
-            assert_eq!(opponent::is_codeword(m, r, &word).rounds, 1);
+            assert_eq!(is_codeword(m, r, &word).rounds, 1);
             word[both.random.below(1 << m)] ^= 1;
-            assert_eq!(opponent::is_codeword(m, r, &word).rounds, (r == m) as usize);
-            assert_eq!(opponent::read_message(m, r, &word, &mut read).refusal, if r == m { 0 } else { 13 });
+            assert_eq!(is_codeword(m, r, &word).rounds, (r == m) as usize);
+            assert_eq!(read_message(m, r, &word, &mut read).refusal, if r == m { 0 } else { 13 });
         }
     }
+}
+
+#[test]
+fn codes() {
+    codes_of(opponent::encode, opponent::read_message, opponent::is_codeword);
+}
+
+#[test]
+fn plain_codes() {
+    codes_of(plain::encode, plain::read_message, plain::is_codeword);
 }

@@ -1,15 +1,6 @@
 -- `code::check_codeword` meets its contract. Assumes nothing.
-use Prim.Native.Nat.{ℕ, _^_}
-use mathlib.Core.Path.{_≡_, sym, ap, subst, _∙_}
-use mathlib.Core.List.{_∷_}
 use borrow.Author.Needs.{needs}
-use native.Mathlib.Omega.{arith}
-use lib.ListN.{length}
-use lib.Dec.{eqb}
-use Rattle.refusals.specs.Refusals.{Checked, check, byteChecks}
-use Rattle.refusals.specs.CheckLaws.{IsCode, stops, goes-on, code-done}
-use Rattle.code.specs.Code.{rank, dimension}
-use Rattle.code.specs.CallLaws.{dimension-is}
+use Rattle.refusals.specs.CheckLaws.{stops, goes-on, code-done}
 use Rattle.code.proofs.check_codeword.Statement.{statement}
 use Rattle.code.proofs.check_codeword.Tie as tie
 
@@ -28,19 +19,19 @@ enum-told c = search needs
 size-requires : tie.Need-size-requires
 size-requires c κs = code-done (c .before .before .check-code .ensures) (c .enum-told .given .1) .most
 
-rank-requires : tie.Need-rank-requires
-rank-requires c κs = search needs
+dimension-requires : tie.Need-dimension-requires
+dimension-requires c κs =
+    let code = code-done (c .before .before .before .check-code .ensures) (c .before .enum-told .given .1) in
+    (code .most, code .order)
 
 check-buffers-requires : tie.Need-check-buffers-requires
 check-buffers-requires c κs = search needs
 
 returns-2 : tie.Need-returns-2
 returns-2 c =
-    let a = c .before .before .before .before .before .before .before .args in
     let n = c .before .before .size in
-    let k : c .before .rank .result ≡ dimension (a .m) (a .r) = dimension-is (a .m) (a .r) (n .ensures) (c .before .rank .ensures) in
     goes-on _ tt (c .before .before .before .before .before .check-code .ensures) (c .before .before .before .enum-told .given .1)
-    (rw (n .ensures, k) at (c .check-buffers .ensures))
+    (rw (n .ensures, c .before .dimension .ensures) at (c .check-buffers .ensures))
 
 pub check-codeword-spec : {M : Type 1} → statement M
 check-codeword-spec =
@@ -51,6 +42,6 @@ check-codeword-spec =
     returns
     enum-told
     size-requires
-    rank-requires
+    dimension-requires
     check-buffers-requires
     returns-2)

@@ -1,14 +1,14 @@
 -- `code::encode` meets its contract: the output is the coefficients of the spread message. Assumes nothing.
-use Prim.Native.Nat.{ℕ, _^_}
+use Prim.Native.Nat.{ℕ, _^_, _≤_}
 use mathlib.Core.List.{List}
 use mathlib.Core.Path.{_≡_, refl, sym, ap, subst, _∙_}
 use borrow.Author.Needs.{needs}
 use lib.ListN.{length}
+use lib.Pow.{pow-mono}
 use Rattle.refusals.specs.Refusals.{answerNumber, Checked}
 use Rattle.words.specs.Sum.{tabulate}
 use Rattle.words.specs.Word.{IsWord}
 use Rattle.code.specs.Code.{spread}
-use Rattle.code.specs.Calls.{encodeChecks}
 use Rattle.code.specs.CallLaws.{Encodable, encode-passed, rank-is, call-refused, call-done}
 use Rattle.code.specs.Transformed.{coefficients, spread-word, spread-coefficients}
 use Rattle.code.proofs.encode.Statement.{statement}
@@ -43,12 +43,26 @@ spread-is c e =
 enum-told : tie.Need-enum-told
 enum-told c = search needs
 
+slice-aggregate-degrees : tie.Need-slice-aggregate-degrees
+slice-aggregate-degrees c = search needs
+
+degrees-requires : tie.Need-degrees-requires
+degrees-requires c κs =
+    let k = passed-of (c .before) in
+    let small : length (c .before .before .before .before .before .before .args .out .now) ≤ 1024 = rw (k .room-size) (pow-mono {j = 10} (k .code .most)) in
+    (small, small)
+
+slice-aggregate-spread : tie.Need-slice-aggregate-spread
+slice-aggregate-spread c = search needs
+
 spread-requires : tie.Need-spread-requires
-spread-requires c κs = rank-is _ _ (passed-of (c .before) .size) (passed-of (c .before) .room-size)
+spread-requires c κs =
+    let k = c .before .before .before .before .before in
+    (c .before .before .before .degrees .ensures, rank-is _ _ (passed-of k .size) (passed-of k .room-size))
 
 transform-requires : tie.Need-transform-requires
 transform-requires c κs =
-    let k = c .before .before .before .before .before in
+    let k = c .before .before .before .before .before .before .before .before .before in
     (subst (IsWord _) (sym (spread-is k (c .before .before .before .spread .ensures))) (spread-word _ _ _ (passed-of k .bits)), passed-of k .code .most)
 
 same-length : tie.Need-same-length
@@ -56,7 +70,7 @@ same-length c = search needs
 
 returns-2 : tie.Need-returns-2
 returns-2 c =
-    let k = c .before .before .before .before .before .before .before .before in
+    let k = c .before .before .before .before .before .before .before .before .before .before .before .before in
     let a = k .before .before .before .before .before .args in
     call-done _ _ _ (ap answerNumber (sym (k .enum-told .given .1)) ∙ k .before .before .check-message .ensures .number)
     (c .before .before .transform .ensures ∙ ap (coefficients (a .m)) (spread-is k (c .before .before .before .before .before .before .spread .ensures)) ∙ spread-coefficients (a .m) (a .r) (a .message .now))
@@ -69,6 +83,9 @@ encode-spec =
     enum-known-checked
     returns
     enum-told
+    slice-aggregate-degrees
+    degrees-requires
+    slice-aggregate-spread
     spread-requires
     transform-requires
     same-length

@@ -1,9 +1,9 @@
 -- `code::is_codeword` meets its contract. Assumes nothing.
-use Prim.Native.Nat.{ℕ, _^_, _≤_}
-use mathlib.Core.Path.{_≡_, refl, sym, ap, subst, _∙_}
+use Prim.Native.Nat.{ℕ, _≤_}
+use mathlib.Core.Path.{_≡_, sym, ap, _∙_}
 use borrow.Author.Needs.{needs}
 use native.Mathlib.Omega.{arith}
-use lib.ListN.{length, replicate}
+use lib.ListN.{replicate}
 use lib.Pow.{pow-mono}
 use Rattle.refusals.specs.Refusals.{answerNumber, firstRefusal}
 use Rattle.refusals.specs.CheckLaws.{IsCode}
@@ -55,7 +55,7 @@ part-t-end c = fits c
 test-in-requires : tie.Need-test-in-requires
 test-in-requires c κs =
     let k = c .before in
-    (passed-of (k .before) .0 .most, passed-of (k .before) .1, front-length {A = ℕ} _ (replicate 1024 0) (fits k) ∙ k .size .ensures)
+    (passed-of (k .before) .0 .most, omega (arith, passed-of (k .before) .0 .order, passed-of (k .before) .0 .most), passed-of (k .before) .1, front-length {A = ℕ} _ (replicate 1024 0) (fits k) ∙ k .size .ensures)
 
 returns-2 : tie.Need-returns-2
 returns-2 c =

@@ -1,18 +1,17 @@
 -- `code::read_message` meets its contract: 13 is tested before anything is written. Assumes nothing.
-use Prim.Native.Nat.{ℕ, _^_, _≤_}
-use mathlib.Core.Path.{_≡_, refl, sym, ap, subst, _∙_}
-use mathlib.Core.Bool.{Bool, cond}
-use mathlib.Core.List.{List, [], _∷_}
+use Prim.Native.Nat.{ℕ, _≤_}
+use mathlib.Core.Path.{_≡_, refl, sym, ap, _∙_}
+use mathlib.Core.List.{[], _∷_}
 use borrow.Author.Needs.{needs}
 use native.Mathlib.Omega.{arith}
 use lib.ListN.{length, replicate}
 use lib.Pow.{pow-mono}
 use Rattle.refusals.specs.declared.Refusal.the-variants.{NotCodeword}
-use Rattle.refusals.specs.Refusals.{answerNumber, Checked, check, firstRefusal}
+use Rattle.refusals.specs.Refusals.{answerNumber, check, firstRefusal}
 use Rattle.refusals.specs.CheckLaws.{then, passes, fails, no-more, refuses, stops-at}
 use Rattle.words.specs.Parts.{front-length}
-use Rattle.code.specs.Code.{codewordTest, messageOf}
-use Rattle.code.specs.Calls.{readChecks, Calls}
+use Rattle.code.specs.Code.{codewordTest}
+use Rattle.code.specs.Calls.{readChecks}
 use Rattle.code.specs.CallLaws.{Readable, read-passed, call-refused, call-done}
 use Rattle.code.proofs.read_message.Statement.{statement}
 use Rattle.code.proofs.read_message.Tie as tie
@@ -64,7 +63,7 @@ read-in-requires : tie.Need-read-in-requires
 read-in-requires c κs =
     let k = c .before .before in
     let ok = passed-of (k .before) in
-    (ok .code .most, ok .word-is, front-length {A = ℕ} _ (replicate 1024 0) (fits k) ∙ k .size .ensures, ok .room-size)
+    (ok .code .most, omega (arith, ok .code .order, ok .code .most), ok .word-is, front-length {A = ℕ} _ (replicate 1024 0) (fits k) ∙ k .size .ensures, ok .room-size)
 
 same-length : tie.Need-same-length
 same-length c = search needs

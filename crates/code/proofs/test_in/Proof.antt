@@ -1,9 +1,12 @@
 -- `code::test_in` meets its contract. Assumes nothing.
-use mathlib.Core.Path.{_≡_, sym, ap, subst, _∙_}
+use mathlib.Core.Path.{sym, ap, subst, _∙_}
 use borrow.Author.Needs.{needs}
 use mathlib.Core.List.{List}
-use Prim.Native.Nat.{ℕ}
+use Prim.Native.Nat.{ℕ, _^_}
+use native.Mathlib.Omega.{arith}
+use Rattle.words.specs.SumLaws.{length-tabulate}
 use lib.ListN.{length}
+use lib.Pow.{pow-mono}
 use Rattle.words.specs.Word.{bit, IsWord}
 use Rattle.code.specs.Code.{lowTest}
 use Rattle.code.specs.Transformed.{coefficients, coefficients-test}
@@ -16,10 +19,12 @@ copy-requires c κs = search needs
 transform-requires : tie.Need-transform-requires
 transform-requires c κs =
     let s = c .before .before .before .before .before .before .before in
-    (subst (IsWord _) (sym (c .before .before .before .copy .ensures)) (s .pre .1), s .pre .0)
+    (subst (IsWord _) (sym (c .before .before .before .copy .ensures)) (s .pre .2), s .pre .0)
 
 is-low-requires : tie.Need-is-low-requires
-is-low-requires c κs = search needs
+is-low-requires c κs =
+    let s = c .before .before .before .before .before .before .before .before .before .before .before in
+    (s .pre .1, omega (arith, ap length (c .before .before .before .transform .ensures) ∙ length-tabulate (2 ^ s .args .m) _, pow-mono {j = 10} (s .pre .0)))
 
 same-length : tie.Need-same-length
 same-length c = search needs

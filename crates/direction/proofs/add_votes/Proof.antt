@@ -1,154 +1,88 @@
--- `direction::add_votes` meets its contract: a turn adds the vote of one coset at both its members. Assumes nothing.
-use Prim.Native.Nat.{_-_, _^_, _≤_}
-use native.Mathlib.Omega.{arith}
-use lib.ListN.{length-set}
+-- `direction::add_votes` meets its contract: by cosets below 4, and by blocks of 4 cosets from there on. Assumes nothing.
 use borrow.Author.Needs.{needs}
-use Rattle.direction.proofs.Turns.{members, number-le, direction-lt}
-use Rattle.direction.proofs.VoteLoops.{VotedBelow, voted-none, voted-all, Turn, one-fits, two-fits, voted-more}
+use native.Mathlib.Omega.{arith}
+use Rattle.direction.proofs.Turns.{direction-lt}
+use Rattle.direction.proofs.FourCalls.{vote-asks, voted-by}
 use Rattle.direction.proofs.add_votes.Statement.{statement}
 use Rattle.direction.proofs.add_votes.Tie as tie
 
-abbrev Inv-loop : tie.InvT-loop
-Inv-loop m b area₀ n h q₀ area q = (q ≤ 2 ^ m) × VotedBelow m b area₀ q area
+highest-bit-requires : tie.Need-highest-bit-requires
+highest-bit-requires c κs = (c .pre .0 .some, direction-lt (c .pre .0))
 
-abbrev μ-loop : tie.MeasureT-loop
-μ-loop m b area₀ n h q₀ area q = 2 ^ m - q
+vote-each-requires : tie.Need-vote-each-requires
+vote-each-requires c κs = search needs
 
-size-requires : tie.Need-size-requires Inv-loop μ-loop
-size-requires c κs = search needs
+vote-fours-requires : tie.Need-vote-fours-requires
+vote-fours-requires c κs = vote-asks (c .before .before .before .before .pre .0) _ 0 (omega arith) (c .before .before .before .highest-bit .ensures .0) (omega arith) (omega arith) (c .before .before .before .before .pre .1 .0) (c .before .before .before .before .pre .1 .1)
 
-highest-bit-requires : tie.Need-highest-bit-requires Inv-loop μ-loop
-highest-bit-requires c κs = (c .before .pre .0 .some, direction-lt (c .before .pre .0))
+sub-vote-fours : tie.Need-sub-vote-fours
+sub-vote-fours c = search needs
 
-loop-holds : tie.Need-loop-holds Inv-loop μ-loop
-loop-holds c = (omega arith, voted-none _ _ _)
+vote-fours-requires-2 : tie.Need-vote-fours-requires-2
+vote-fours-requires-2 c κs = vote-asks (c .before .before .before .before .before .pre .0) _ 1 (omega arith) (c .before .before .before .before .highest-bit .ensures .0) (omega arith) (omega arith) (c .before .before .before .before .before .pre .1 .0) (c .before .before .before .before .before .pre .1 .1)
 
-insert-zero-requires : tie.Need-insert-zero-requires Inv-loop μ-loop
-insert-zero-requires c κs = (omega arith, omega (arith, number-le (c .before .before .before .before .pre .0)))
+sub-vote-fours-2 : tie.Need-sub-vote-fours-2
+sub-vote-fours-2 c = search needs
 
--- this turn
-turn : (c : tie.After-insert-zero Inv-loop μ-loop)
-    → Turn (c .before .before .before .before .before .args .m) (c .before .before .before .before .before .args .b)
-    (c .before .before .before .before .before .args .area .now)
-    (c .before .before .before .before .size .result) (c .before .before .loop .q) (c .insert-zero .result) (c .before .before .loop .area)
-turn c =
-    let s = c .before .before .before .before .before in
-    record {
-      asks = s .pre .0;
-      tally = s .pre .1 .0;
-      projection = s .pre .1 .1;
-      size = c .before .before .before .before .size .ensures;
-      coset = members (s .pre .0) (omega arith) (c .before .before .before .highest-bit .ensures .0) (c .insert-zero .ensures .0);
-      voted = c .before .before .loop .inv .1;
-    }
+vote-fours-requires-3 : tie.Need-vote-fours-requires-3
+vote-fours-requires-3 c κs = vote-asks (c .before .before .before .before .before .before .pre .0) _ 2 (omega arith) (c .before .before .before .before .before .highest-bit .ensures .0) (omega arith) (omega arith) (c .before .before .before .before .before .before .pre .1 .0) (c .before .before .before .before .before .before .pre .1 .1)
 
-mul-vote : tie.Need-mul-vote Inv-loop μ-loop
-mul-vote c = search needs
+sub-vote-fours-3 : tie.Need-sub-vote-fours-3
+sub-vote-fours-3 c = search needs
 
-add-vote : tie.Need-add-vote Inv-loop μ-loop
-add-vote c = search needs
+vote-fours-requires-4 : tie.Need-vote-fours-requires-4
+vote-fours-requires-4 c κs = vote-asks (c .before .before .before .before .before .before .pre .0) _ 3 (omega arith) (c .before .before .before .before .before .highest-bit .ensures .0) (omega arith) (omega arith) (c .before .before .before .before .before .before .pre .1 .0) (c .before .before .before .before .before .before .pre .1 .1)
 
-mul-vote-2 : tie.Need-mul-vote-2 Inv-loop μ-loop
-mul-vote-2 c = search needs
-
-slice-copy-out-vote : tie.Need-slice-copy-out-vote Inv-loop μ-loop
-slice-copy-out-vote c = search needs
-
-mul-vote-3 : tie.Need-mul-vote-3 Inv-loop μ-loop
-mul-vote-3 c = search needs
-
-slice-copy-out-vote-2 : tie.Need-slice-copy-out-vote-2 Inv-loop μ-loop
-slice-copy-out-vote-2 c = search needs
-
-mul-vote-4 : tie.Need-mul-vote-4 Inv-loop μ-loop
-mul-vote-4 c = record { fits = omega (arith, turn (c .before .before) .coset .partner) }
-
-slice-copy-out-vote-3 : tie.Need-slice-copy-out-vote-3 Inv-loop μ-loop
-slice-copy-out-vote-3 c = omega (arith, turn (c .before .before) .coset .partner)
-
-mul-area : tie.Need-mul-area Inv-loop μ-loop
-mul-area c = search needs
-
-add-area : tie.Need-add-area Inv-loop μ-loop
-add-area c = search needs
-
-mul-area-2 : tie.Need-mul-area-2 Inv-loop μ-loop
-mul-area-2 c = search needs
-
-slice-copy-out-area : tie.Need-slice-copy-out-area Inv-loop μ-loop
-slice-copy-out-area c = search needs
-
-add-area-2 : tie.Need-add-area-2 Inv-loop μ-loop
-add-area-2 c = one-fits (turn (c .before .before .before .before))
-
-slice-set-from-area : tie.Need-slice-set-from-area Inv-loop μ-loop
-slice-set-from-area c = search needs
-
-mul-area-3 : tie.Need-mul-area-3 Inv-loop μ-loop
-mul-area-3 c = search needs
-
-add-area-3 : tie.Need-add-area-3 Inv-loop μ-loop
-add-area-3 c = record { fits = omega (arith, turn (c .before .before .before .before) .coset .partner) }
-
-mul-area-4 : tie.Need-mul-area-4 Inv-loop μ-loop
-mul-area-4 c = record { fits = omega (arith, turn (c .before .before .before .before) .coset .partner) }
-
-slice-copy-out-area-2 : tie.Need-slice-copy-out-area-2 Inv-loop μ-loop
-slice-copy-out-area-2 c = rw (length-set (c .before .before .before .before .before .before .loop .area)) (omega (arith, turn (c .before .before .before .before) .coset .partner))
-
-add-area-4 : tie.Need-add-area-4 Inv-loop μ-loop
-add-area-4 c = two-fits (turn (c .before .before .before .before .before))
-
-slice-set-from-area-2 : tie.Need-slice-set-from-area-2 Inv-loop μ-loop
-slice-set-from-area-2 c = rw (length-set (c .before .before .before .before .before .before .before .loop .area)) (omega (arith, turn (c .before .before .before .before .before) .coset .partner))
-
-add-q : tie.Need-add-q Inv-loop μ-loop
-add-q c = search needs
-
-loop-less : tie.Need-loop-less Inv-loop μ-loop
-loop-less c = search needs
-
-loop-again : tie.Need-loop-again Inv-loop μ-loop
-loop-again c = (omega arith, voted-more (turn (c .before .before .before .before .before)))
-
-same-length : tie.Need-same-length Inv-loop μ-loop
+same-length : tie.Need-same-length
 same-length c = search needs
 
-returns : tie.Need-returns Inv-loop μ-loop
-returns c = voted-all (c .before .before .before .before .pre .0) (c .before .loop .inv .1) (omega arith)
+returns : tie.Need-returns
+returns c = search needs
+
+same-length-2 : tie.Need-same-length-2
+same-length-2 c = search needs
+
+returns-2 : tie.Need-returns-2
+returns-2 c = voted-by (c .before .before .before .before .before .before .pre .0) _ 0 (omega arith) (c .before .vote-fours .ensures)
+
+same-length-3 : tie.Need-same-length-3
+same-length-3 c = search needs
+
+returns-3 : tie.Need-returns-3
+returns-3 c = voted-by (c .before .before .before .before .before .before .before .pre .0) _ 1 (omega arith) (c .before .vote-fours2 .ensures)
+
+same-length-4 : tie.Need-same-length-4
+same-length-4 c = search needs
+
+returns-4 : tie.Need-returns-4
+returns-4 c = voted-by (c .before .before .before .before .before .before .before .before .pre .0) _ 2 (omega arith) (c .before .vote-fours3 .ensures)
+
+same-length-5 : tie.Need-same-length-5
+same-length-5 c = search needs
+
+returns-5 : tie.Need-returns-5
+returns-5 c = voted-by (c .before .before .before .before .before .before .before .before .pre .0) _ 3 (omega arith) (c .before .vote-fours4 .ensures)
 
 pub add-votes-spec : {M : Type 1} → statement M
 add-votes-spec =
     tie.close
     (tie.spec
-    Inv-loop
-    μ-loop
-    size-requires
     highest-bit-requires
-    loop-holds
-    insert-zero-requires
-    mul-vote
-    add-vote
-    mul-vote-2
-    slice-copy-out-vote
-    mul-vote-3
-    slice-copy-out-vote-2
-    mul-vote-4
-    slice-copy-out-vote-3
-    mul-area
-    add-area
-    mul-area-2
-    slice-copy-out-area
-    add-area-2
-    slice-set-from-area
-    mul-area-3
-    add-area-3
-    mul-area-4
-    slice-copy-out-area-2
-    add-area-4
-    slice-set-from-area-2
-    add-q
-    loop-less
-    loop-again
+    vote-each-requires
+    vote-fours-requires
+    sub-vote-fours
+    vote-fours-requires-2
+    sub-vote-fours-2
+    vote-fours-requires-3
+    sub-vote-fours-3
+    vote-fours-requires-4
     same-length
-    returns)
+    returns
+    same-length-2
+    returns-2
+    same-length-3
+    returns-3
+    same-length-4
+    returns-4
+    same-length-5
+    returns-5)

@@ -1,104 +1,88 @@
--- `direction::project` meets its contract: a turn writes the sum of the bits of one coset's members. Assumes nothing.
-use Prim.Native.Nat.{suc, _-_, _*_, _^_, _≤_}
-use native.Mathlib.Omega.{arith}
-use lib.IntN.{pos}
+-- `direction::project` meets its contract: by cosets below 4, and by blocks of 4 cosets from there on. Assumes nothing.
 use borrow.Author.Needs.{needs}
-use Rattle.words.specs.Word.{bit}
-use Rattle.words.specs.Written.{Written, written-none, written-more, written-to}
-use Rattle.area.specs.Area.{wordOf}
-use Rattle.direction.specs.Direction.{project}
-use Rattle.direction.proofs.Turns.{Members, members, number-le, direction-lt, pair-value}
+use native.Mathlib.Omega.{arith}
+use Rattle.direction.proofs.Turns.{direction-lt}
+use Rattle.direction.proofs.FourCalls.{project-asks, projected-by}
 use Rattle.direction.proofs.project.Statement.{statement}
 use Rattle.direction.proofs.project.Tie as tie
 
-abbrev Inv-loop : tie.InvT-loop
-Inv-loop m b area₀ n h q₀ area q =
-    (q ≤ 2 ^ m) × Written (pos 0) (4 * 2 ^ m) q (λ j. pos (bit (project m b (wordOf (2 ^ suc m) area₀)) j)) area₀ area
+highest-bit-requires : tie.Need-highest-bit-requires
+highest-bit-requires c κs = (c .pre .some, direction-lt (c .pre))
 
-abbrev μ-loop : tie.MeasureT-loop
-μ-loop m b area₀ n h q₀ area q = 2 ^ m - q
+project-each-requires : tie.Need-project-each-requires
+project-each-requires c κs = search needs
 
-size-requires : tie.Need-size-requires Inv-loop μ-loop
-size-requires c κs = search needs
+project-fours-requires : tie.Need-project-fours-requires
+project-fours-requires c κs = project-asks (c .before .before .before .before .pre) _ 0 (omega arith) (c .before .before .before .highest-bit .ensures .0) (omega arith) (omega arith)
 
-highest-bit-requires : tie.Need-highest-bit-requires Inv-loop μ-loop
-highest-bit-requires c κs = (c .before .pre .some, direction-lt (c .before .pre))
+sub-project-fours : tie.Need-sub-project-fours
+sub-project-fours c = search needs
 
-loop-holds : tie.Need-loop-holds Inv-loop μ-loop
-loop-holds c = (omega arith, written-none _ _ _ _)
+project-fours-requires-2 : tie.Need-project-fours-requires-2
+project-fours-requires-2 c κs = project-asks (c .before .before .before .before .before .pre) _ 1 (omega arith) (c .before .before .before .before .highest-bit .ensures .0) (omega arith) (omega arith)
 
-insert-zero-requires : tie.Need-insert-zero-requires Inv-loop μ-loop
-insert-zero-requires c κs = (omega arith, omega (arith, number-le (c .before .before .before .before .pre)))
+sub-project-fours-2 : tie.Need-sub-project-fours-2
+sub-project-fours-2 c = search needs
 
--- the coset of this turn
-coset : (c : tie.After-insert-zero Inv-loop μ-loop)
-    → Members (c .before .before .before .before .before .args .m) (c .before .before .before .before .before .args .b) (c .before .before .loop .q) (c .insert-zero .result)
-coset c = members (c .before .before .before .before .before .pre) (omega arith) (c .before .before .before .highest-bit .ensures .0) (c .insert-zero .ensures .0)
+project-fours-requires-3 : tie.Need-project-fours-requires-3
+project-fours-requires-3 c κs = project-asks (c .before .before .before .before .before .before .pre) _ 2 (omega arith) (c .before .before .before .before .before .highest-bit .ensures .0) (omega arith) (omega arith)
 
-mul-area : tie.Need-mul-area Inv-loop μ-loop
-mul-area c = search needs
+sub-project-fours-3 : tie.Need-sub-project-fours-3
+sub-project-fours-3 c = search needs
 
-slice-copy-out-area : tie.Need-slice-copy-out-area Inv-loop μ-loop
-slice-copy-out-area c = search needs
+project-fours-requires-4 : tie.Need-project-fours-requires-4
+project-fours-requires-4 c κs = project-asks (c .before .before .before .before .before .before .pre) _ 3 (omega arith) (c .before .before .before .before .before .highest-bit .ensures .0) (omega arith) (omega arith)
 
-mul-area-2 : tie.Need-mul-area-2 Inv-loop μ-loop
-mul-area-2 c = record { fits = omega (arith, coset (c .before) .partner) }
-
-slice-copy-out-area-2 : tie.Need-slice-copy-out-area-2 Inv-loop μ-loop
-slice-copy-out-area-2 c = omega (arith, coset (c .before) .partner)
-
-mul-t17 : tie.Need-mul-t17 Inv-loop μ-loop
-mul-t17 c = search needs
-
-add-t18 : tie.Need-add-t18 Inv-loop μ-loop
-add-t18 c = search needs
-
-mul-t19 : tie.Need-mul-t19 Inv-loop μ-loop
-mul-t19 c = search needs
-
-slice-set-from-area : tie.Need-slice-set-from-area Inv-loop μ-loop
-slice-set-from-area c = search needs
-
-add-q : tie.Need-add-q Inv-loop μ-loop
-add-q c = search needs
-
-loop-less : tie.Need-loop-less Inv-loop μ-loop
-loop-less c = omega arith
-
-loop-again : tie.Need-loop-again Inv-loop μ-loop
-loop-again c =
-    let l = c .before .before .before .before .loop in (
-      omega arith,
-      written-more (l .inv .1) _ _ (omega arith) (omega arith)
-          (pair-value (c .before .before .before .before .before .before .before .pre) (coset (c .before .before)) (l .area) (λ j k. l .inv .1 .below j (omega arith))),
-    )
-
-same-length : tie.Need-same-length Inv-loop μ-loop
+same-length : tie.Need-same-length
 same-length c = search needs
 
-returns : tie.Need-returns Inv-loop μ-loop
-returns c = written-to (c .before .loop .inv .1) _ (omega arith)
+returns : tie.Need-returns
+returns c = search needs
+
+same-length-2 : tie.Need-same-length-2
+same-length-2 c = search needs
+
+returns-2 : tie.Need-returns-2
+returns-2 c = projected-by (c .before .before .before .before .before .before .pre) _ 0 (omega arith) (c .before .project-fours .ensures)
+
+same-length-3 : tie.Need-same-length-3
+same-length-3 c = search needs
+
+returns-3 : tie.Need-returns-3
+returns-3 c = projected-by (c .before .before .before .before .before .before .before .pre) _ 1 (omega arith) (c .before .project-fours2 .ensures)
+
+same-length-4 : tie.Need-same-length-4
+same-length-4 c = search needs
+
+returns-4 : tie.Need-returns-4
+returns-4 c = projected-by (c .before .before .before .before .before .before .before .before .pre) _ 2 (omega arith) (c .before .project-fours3 .ensures)
+
+same-length-5 : tie.Need-same-length-5
+same-length-5 c = search needs
+
+returns-5 : tie.Need-returns-5
+returns-5 c = projected-by (c .before .before .before .before .before .before .before .before .pre) _ 3 (omega arith) (c .before .project-fours4 .ensures)
 
 pub project-spec : {M : Type 1} → statement M
 project-spec =
     tie.close
     (tie.spec
-    Inv-loop
-    μ-loop
-    size-requires
     highest-bit-requires
-    loop-holds
-    insert-zero-requires
-    mul-area
-    slice-copy-out-area
-    mul-area-2
-    slice-copy-out-area-2
-    mul-t17
-    add-t18
-    mul-t19
-    slice-set-from-area
-    add-q
-    loop-less
-    loop-again
+    project-each-requires
+    project-fours-requires
+    sub-project-fours
+    project-fours-requires-2
+    sub-project-fours-2
+    project-fours-requires-3
+    sub-project-fours-3
+    project-fours-requires-4
     same-length
-    returns)
+    returns
+    same-length-2
+    returns-2
+    same-length-3
+    returns-3
+    same-length-4
+    returns-4
+    same-length-5
+    returns-5)

@@ -25,15 +25,24 @@ fn answer(from: opponent::Answer) -> Answer {
 
 impl Decoder for Opponent {
     fn encode(&mut self, m: usize, r: usize, message: &[u8], out: &mut [u8]) -> Answer {
-        answer(opponent::encode(m, r, message, out))
+        answer(match self {
+            Opponent::Packed(_) => opponent::encode(m, r, message, out),
+            Opponent::Plain(_) => plain::encode(m, r, message, out),
+        })
     }
 
     fn read_message(&mut self, m: usize, r: usize, word: &[u8], out: &mut [u8]) -> Answer {
-        answer(opponent::read_message(m, r, word, out))
+        answer(match self {
+            Opponent::Packed(_) => opponent::read_message(m, r, word, out),
+            Opponent::Plain(_) => plain::read_message(m, r, word, out),
+        })
     }
 
     fn is_codeword(&mut self, m: usize, r: usize, word: &[u8]) -> Answer {
-        answer(opponent::is_codeword(m, r, word))
+        answer(match self {
+            Opponent::Packed(_) => opponent::is_codeword(m, r, word),
+            Opponent::Plain(_) => plain::is_codeword(m, r, word),
+        })
     }
 
     fn decode(

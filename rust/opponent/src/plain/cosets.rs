@@ -2,6 +2,8 @@
 //! For each l below 8 there is a row in which place p stands at p XOR l: with the row of a direction's three lowest
 //! digits, both members of eight cosets at a time stand side by side.
 
+use super::codes::{coefficients, has_order};
+
 pub type Rows<T> = [[T; 1024]; 8];
 
 /// The highest one of b as a number, and the rest of b.
@@ -77,19 +79,5 @@ pub fn flip(word: &mut [u8], votes: &Rows<i16>) -> bool {
 
 /// Whether no coefficient has a degree above r.
 pub fn is_codeword(r: usize, word: &[u8]) -> bool {
-    let mut room = [0; 1024];
-    let coefficients = &mut room[..word.len()];
-    coefficients.copy_from_slice(word);
-    let mut half = 1;
-    while half < coefficients.len() {
-        for pair in coefficients.chunks_exact_mut(2 * half) {
-            let (low, high) = pair.split_at_mut(half);
-            for (h, l) in high.iter_mut().zip(low) {
-                *h ^= *l;
-            }
-        }
-        half *= 2;
-    }
-    let above = |(mask, c): (usize, &u8)| *c == 1 && mask.count_ones() as usize > r;
-    !coefficients.iter().enumerate().any(above)
+    has_order(r, coefficients(word, &mut [0; 1024]))
 }

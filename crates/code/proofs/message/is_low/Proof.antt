@@ -1,48 +1,32 @@
--- `code::message::is_low` meets its contract: every mask that was passed has passed the test. Assumes nothing.
-use mathlib.Core.Logic.{⊎-elim}
-use borrow.Author.Count.{below-none, below-more}
-use Rattle.words.specs.SumLaws.{true-all, some-false}
-use Rattle.words.specs.Word.{bit}
-use Rattle.code.specs.Code.{degree, lowTest}
-use mathlib.Core.Bool.{Bool, true, cond}
-use lib.Dec.{leb, eqb}
-use Rattle.code.proofs.Masks.{low-passes, zero-passes, other-fails}
-use Prim.Native.Nat.{ℕ, _-_, _≤_, _<_}
-use mathlib.Core.Path.{_≡_, refl, sym}
-use lib.ListN.{length}
-use mathlib.Core.List.{List}
+-- `code::message::is_low` meets its contract: low is the test of the masks passed. Assumes nothing.
+use Prim.Native.Nat.{_-_, _≤_}
+use mathlib.Core.Path.{_≡_, refl, ap, _∙_}
 use borrow.Author.Needs.{needs}
 use native.Mathlib.Omega.{arith}
+use lib.ListN.{length}
+use Rattle.words.specs.Word.{bit}
+use Rattle.code.specs.Code.{lowTest}
+use Rattle.code.proofs.Masks.{test-none, test-more}
 use Rattle.code.proofs.message.is_low.Statement.{statement}
 use Rattle.code.proofs.message.is_low.Tie as tie
 
--- the test of mask q
-abbrev lowAt : ℕ → List ℕ → ℕ → Bool
-lowAt r t q = cond (leb (degree q) r) true (eqb (bit t q) 0)
-
 abbrev Inv-loop : tie.InvT-loop
-Inv-loop r t a₀ a-end a = (a-end ≡ length t) × (a ≤ length t) × ((q : ℕ) → q < a → lowAt r t q ≡ true)
+Inv-loop r t most low₀ a₀ a-end low a = (most ≡ r) × (a-end ≡ length t) × (a ≤ length t) × (low ≡ lowTest r (bit t) a)
 
 abbrev μ-loop : tie.MeasureT-loop
-μ-loop r t a₀ a-end a = length t - a
+μ-loop r t most low₀ a₀ a-end low a = length t - a
+
+cast-most : tie.Need-cast-most Inv-loop μ-loop
+cast-most c = search needs
 
 loop-holds : tie.Need-loop-holds Inv-loop μ-loop
-loop-holds c = (refl, omega arith, below-none _)
+loop-holds c = (refl, refl, omega arith, test-none _ _)
 
 degree-requires : tie.Need-degree-requires Inv-loop μ-loop
 degree-requires c κs = search needs
 
-shared-slice-read-if2 : tie.Need-shared-slice-read-if2 Inv-loop μ-loop
-shared-slice-read-if2 c = search needs
-
-returns : tie.Need-returns Inv-loop μ-loop
-unfolding lowTest
-returns c =
-    let a = c .before .before .before .before .before .before .before .args in
-    let l = c .before .before .before .before .before .loop in
-    let d = c .before .before .before .degree in
-    sym (some-false (length (a .t .now)) (lowAt (a .r) (a .t .now)) (l .a) (omega arith)
-    (other-fails (a .r) (l .a) (d .result) (d .ensures) (bit (a .t .now) (l .a)) (c .before .before .if1 .taken) (c .if2 .taken)))
+shared-slice-read-low : tie.Need-shared-slice-read-low Inv-loop μ-loop
+shared-slice-read-low c = search needs
 
 add-a : tie.Need-add-a Inv-loop μ-loop
 add-a c = search needs
@@ -52,24 +36,11 @@ loop-less c = search needs
 
 loop-again : tie.Need-loop-again Inv-loop μ-loop
 loop-again c =
-    let a = c .before .before .before .before .before .args in
     let l = c .before .before .before .loop in
-    let d = c .before .degree in (
-      refl,
-      omega arith,
-      below-more _ _ (l .inv .2)
-          (⊎-elim
-          (λ w. zero-passes (a .r) (l .a) (d .result) (d .ensures) (bit (a .t .now) (l .a)) (w .0 .taken) (w .2 .left))
-          (λ w. low-passes (a .r) (l .a) (d .result) (d .ensures) (bit (a .t .now) (l .a)) (w .left))
-          (c .if1 .came)),
-    )
+    (refl, refl, omega arith, test-more _ _ _ (l .low) (c .before .degree .ensures) (l .inv .3))
 
-returns-2 : tie.Need-returns-2 Inv-loop μ-loop
-unfolding lowTest
-returns-2 c =
-    let a = c .before .before .before .args in
-    let l = c .before .loop in
-    sym (true-all (length (a .t .now)) (lowAt (a .r) (a .t .now)) (λ q b. l .inv .2 q (omega arith)))
+returns : tie.Need-returns Inv-loop μ-loop
+returns c = c .before .loop .inv .3 ∙ ap (lowTest _ _) (omega arith)
 
 pub is-low-spec : {M : Type 1} → statement M
 is-low-spec =
@@ -77,11 +48,11 @@ is-low-spec =
     (tie.spec
     Inv-loop
     μ-loop
+    cast-most
     loop-holds
     degree-requires
-    shared-slice-read-if2
-    returns
+    shared-slice-read-low
     add-a
     loop-less
     loop-again
-    returns-2)
+    returns)

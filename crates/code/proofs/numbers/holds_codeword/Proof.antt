@@ -43,7 +43,7 @@ part-is-low-end c = search needs
 
 is-low-requires : tie.Need-is-low-requires
 is-low-requires c κs =
-    work-bits _ _ _ _ (c .before .before .before .before .before .before .before .before .size .ensures) (omega arith) (c .before .before .before .before .before .before .before .before .before .pre .2) (c .before .before .before .before .before .before .copy-on .ensures) _ (c .before .before .before .transform .ensures)
+    work-bits _ _ _ _ (c .before .before .before .before .before .before .before .before .size .ensures) (omega arith) (c .before .before .before .before .before .before .before .before .before .pre .2) (c .before .before .before .before .before .before .copy-on .ensures) _ (c .before .before .before .transform .ensures) (c .before .before .before .before .before .before .before .before .before .pre .0)
 
 same-length : tie.Need-same-length
 same-length c = search needs
