@@ -1,4 +1,5 @@
-//! The library against the second decoder, whole; the decoders written for speed by the directed calls.
+//! The decoders written for speed against the second decoder, by the directed calls. The library's whole comparison is the program
+//! `compare`, which the gate runs.
 
 use check::compare::Comparison;
 use check::{decoders, plan};
@@ -16,12 +17,5 @@ fn plain() {
 #[test]
 #[cfg(feature = "library")]
 fn library() {
-    let mut library = decoders::Library;
-    let mut comparison = Comparison::new(&mut library);
-    for (name, part) in plan::WHOLE {
-        if let Err(disagreement) = part(&mut comparison) {
-            panic!("{name}: {disagreement}");
-        }
-    }
-    assert!(comparison.never_met().is_empty(), "answers never met: {:?}", comparison.never_met());
+    assert!(plan::directed(&mut Comparison::new(&mut decoders::Library)).is_ok());
 }
