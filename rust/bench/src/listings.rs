@@ -57,10 +57,14 @@ fn race(programs: &[Program], profile: usize, records: usize) -> Result<(), Stri
         }
     }
     let _ = std::fs::remove_file(&path);
-    print!("listing, profile {profile}, {records} records");
-    for (program, seconds) in programs.iter().zip(&least) {
-        let ratio = least[0] / seconds;
-        print!("   {} {:.0} records/s, ratio {ratio:.2}", program.name, records as f64 / seconds);
+    let per_second = |seconds: &f64| records as f64 / seconds;
+    print!(
+        "listing, profile {profile}, {records} records   {} {:.0} records/s",
+        programs[0].name,
+        per_second(&least[0])
+    );
+    for (program, seconds) in programs.iter().zip(&least).skip(1) {
+        print!("   {} {:.0} records/s, ratio {:.2}", program.name, per_second(seconds), least[0] / seconds);
     }
     println!();
     Ok(())
