@@ -6,8 +6,8 @@ use Rattle.refusals.specs.declared.Answer.the-variants as answer
 use Rattle.refusals.specs.declared.Decoded.{Decoded}
 use Rattle.refusals.specs.declared.Decoded.the-variants as decoded
 use Rattle.refusals.specs.Refusals.{numberOf, placeOf}
-use Rattle.code.specs.declared.Tested.{Tested}
-use Rattle.code.specs.declared.Tested.the-variants as tested
+use Rattle.codec.specs.declared.Tested.{Tested}
+use Rattle.codec.specs.declared.Tested.the-variants as tested
 
 -- refusal or 0 in the lowest 8 bits, rounds in 8, leaf count in 24, 12 bits of 0, the place named by 8 in 12
 abbrev pub pack : ℕ → ℕ → ℕ → ℕ → ℕ

@@ -3,11 +3,11 @@
 ghost use mathlib.Core.Path.{_≡_};
 ghost use Prim.Native.Nat.{ℕ, _^_, _<_};
 ghost use lib.ListN.{length};
-ghost use Rattle.code.specs.Calls.{Encodes, Reads, Tests};
+ghost use Rattle.codec.specs.Calls.{Encodes, Reads, Tests};
 ghost use Rattle.rule.specs.Decoding.{decodeCall, decodeProfileCall};
 ghost use Rattle.rule.specs.Calls.{Decodes};
 ghost use Rattle.harness.specs.Packing.{pack, packAnswer, packTested, packDecoded, Packed};
-use code::Tested;
+use codec::Tested;
 use refusals::Answer;
 use refusals::Decoded;
 use refusals::Refusal;
@@ -58,7 +58,7 @@ fn pack_decoded(answer: Decoded) -> u64
 pub extern "C" fn rm_encode(m: usize, r: usize, message: &[u8], out: &mut [u8]) -> u64
     ensures { λ x. ⌜ Packed packAnswer (Encodes m r (now (message .entry)) (now (out .entry)) (now (out .exit))) x ⌝ }
 {
-    let answer = code::encode(m, r, message, out);
+    let answer = codec::encode(m, r, message, out);
     pack_answer(answer)
 }
 
@@ -66,7 +66,7 @@ pub extern "C" fn rm_encode(m: usize, r: usize, message: &[u8], out: &mut [u8]) 
 pub extern "C" fn rm_read_message(m: usize, r: usize, word: &[u8], out: &mut [u8]) -> u64
     ensures { λ x. ⌜ Packed packAnswer (Reads m r (now (word .entry)) (now (out .entry)) (now (out .exit))) x ⌝ }
 {
-    let answer = code::read_message(m, r, word, out);
+    let answer = codec::read_message(m, r, word, out);
     pack_answer(answer)
 }
 
@@ -75,7 +75,7 @@ pub extern "C" fn rm_read_message(m: usize, r: usize, word: &[u8], out: &mut [u8
 pub extern "C" fn rm_is_codeword(m: usize, r: usize, word: &[u8]) -> u64
     ensures { λ x. ⌜ Packed packTested (Tests m r (now (word .entry))) x ⌝ }
 {
-    let answer = code::is_codeword(m, r, word);
+    let answer = codec::is_codeword(m, r, word);
     pack_tested(answer)
 }
 

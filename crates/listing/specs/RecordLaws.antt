@@ -20,7 +20,7 @@ use Rattle.refusals.specs.CheckLaws.{bytes-pass, no-more, number-pos, passes, t
 use Rattle.code.specs.Code.{IsCodeword, coefficient, degree, dimension, gather, messageOf}
 use Rattle.code.specs.Codewords.{coefficient-lt, test-of-codeword}
 use Rattle.code.specs.MessageLaws.{length-gather}
-use Rattle.code.specs.Calls.{readChecks, Reads}
+use Rattle.codec.specs.Calls.{readChecks, Reads}
 use Rattle.profiles.specs.Profiles.{profileOf}
 use Rattle.rule.specs.Reading.{Outcome, accepted, refused}
 use Rattle.rule.specs.Decoding.{values, answerOf, outputOf, decodeProfileOf, decodeProfileCall}

@@ -38,7 +38,7 @@ fn message_line(
     requires { ⌜ Readable m r (now decoded) (length (now message)) × (at + 36 ≤ length (now out)) ⌝ }
     ensures { λ end. ⌜ Appended (now (out .entry)) at (acceptedLine serial (messageOf m r (now (decoded .entry)))) end (now (out .exit)) ⌝ }
 {
-    code::read_message(m, r, decoded, message);
+    codec::read_message(m, r, decoded, message);
     lines::accepted_line(serial, message, out, at)
 }
 

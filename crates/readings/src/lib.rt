@@ -25,7 +25,7 @@ fn settle(m: usize, r: usize, k: usize, used: usize, area: &mut [i32]) -> Decode
     ensures tested { λ a. ⌜ a ≡ cond (codewordTest m r (wordOf (2 ^ m) (now (area .entry)))) (Decoded.Accepted k used) (Decoded.Refused Refusal.Unsettled k used) ⌝ }
     ensures kept { λ a. ⌜ SameFront (2 ^ m) (now (area .entry)) (now (area .exit)) ⌝ }
 {
-    if code::numbers::holds_codeword(m, r, area) {
+    if coefficients::numbers::holds_codeword(m, r, area) {
         Decoded::Accepted(k, used)
     } else {
         Decoded::Refused(Refusal::Unsettled, k, used)

@@ -1,0 +1,3 @@
+-- Definitions: Calls. CallLaws has laws.
+pub mod Calls
+pub mod CallLaws

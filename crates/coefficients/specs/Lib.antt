@@ -1,0 +1,6 @@
+-- Definitions: DegreeTable, Numbers. The rest are laws.
+pub mod DegreeTable
+pub mod Numbers
+pub mod Transformed
+pub mod TransformLaws
+pub mod NumberLaws
