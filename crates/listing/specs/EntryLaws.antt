@@ -16,7 +16,8 @@ use Rattle.capture.specs.Capture as capture
 use Rattle.capture.specs.Capture.{profileAt, recordIn, recordSize, serialOf, unpacked, wordSize}
 use Rattle.capture.specs.Body.{bodyLength}
 use Rattle.capture.specs.Cases.{Sized, sized, known-body, unknown, whole}
-use Rattle.listing.specs.Listing.{Entry, entry, cutLine, refusedLine, recordEntry, entriesFor, entriesOf}
+use Rattle.lines.specs.Lines.{cutLine, refusedLine, Entry, entry, recordEntry}
+use Rattle.listing.specs.Listing.{entriesFor, entriesOf}
 use Rattle.listing.specs.Pieces.{Whole, entries}
 use Rattle.listing.specs.Steps.{Cut}
 

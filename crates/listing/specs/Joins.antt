@@ -8,8 +8,9 @@ use lib.ListN.{length, take, drop, length-append, length-drop, take-append-drop}
 use lib.Seq.{take-all}
 use Rattle.capture.specs.Capture.{headerTest}
 use Rattle.capture.specs.Cases.{header-first}
+use Rattle.lines.specs.Lines.{lastLine, headerLine, Entry}
 use Rattle.listing.specs.declared.Listed.{Listed}
-use Rattle.listing.specs.Listing.{Entry, linesOf, acceptedOf, lastLine, headerLine, listingOf}
+use Rattle.listing.specs.Listing.{linesOf, acceptedOf, listingOf}
 use Rattle.listing.specs.Pieces.{Lists, Whole, entries}
 use Rattle.listing.specs.EntryLaws.{entries-turns}
 use Rattle.listing.specs.PieceLaws.{entries-nil, whole-nil, whole-append, lines-append, accepted-append}

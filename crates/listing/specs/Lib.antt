@@ -2,8 +2,7 @@
 pub mod Listing
 pub mod Pieces
 pub mod Steps
-pub mod TextLaws
-pub mod RecordLaws
+pub mod PutLaws
 pub mod EntryLaws
 pub mod PieceLaws
 pub mod StepLaws

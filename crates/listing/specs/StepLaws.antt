@@ -20,11 +20,14 @@ use Rattle.capture.specs.Body.{bodyLength}
 use Rattle.capture.specs.Cases.{none, own-size, sized}
 use Rattle.rule.specs.Reading.{Outcome, accepted, refused}
 use Rattle.rule.specs.Decoding.{decodeProfileOf}
-use Rattle.listing.specs.declared.record.Line.{Line}
-use Rattle.listing.specs.Listing.{Entry, entry, entryFor, recordEntry, linesOf, acceptedOf, cutLine, refusedLine}
+use Rattle.lines.specs.Lines.{cutLine, refusedLine, Entry, entry, entryFor, recordEntry}
+use Rattle.lines.specs.Texts.{Appended}
+use Rattle.lines.specs.TextLaws.{appended-within}
+use Rattle.records.specs.declared.Line.{Line}
+use Rattle.records.specs.Steps.{Decodable, Lined, lineIn, okIn}
+use Rattle.listing.specs.Listing.{linesOf, acceptedOf}
 use Rattle.listing.specs.Pieces.{entries}
-use Rattle.listing.specs.Steps.{Appended, Decodable, Lined, Readiness, Stepped, lineIn, okIn}
-use Rattle.listing.specs.TextLaws.{appended-within}
+use Rattle.listing.specs.Steps.{Readiness, Stepped}
 use Rattle.listing.specs.EntryLaws.{start, record-of, record-entry, record-whole, entries-refused, ends-alone}
 use Rattle.listing.specs.PieceLaws.{entries-nil}
 

@@ -6,15 +6,13 @@ ghost use lib.ListN.{length, take, drop};
 ghost use lib.Dec.{eqb};
 ghost use Rattle.refusals.specs.Refusals.{numberOf};
 ghost use Rattle.capture.specs.Body.{bodyLength};
-ghost use Rattle.listing.specs.Listing.{cutLine, refusedLine, headerLine, lastLine};
+ghost use Rattle.lines.specs.Lines.{cutLine, refusedLine, headerLine, lastLine};
+ghost use Rattle.lines.specs.Texts.{Appended};
 ghost use Rattle.listing.specs.Pieces.{Lists, Puts, Turn};
-ghost use Rattle.listing.specs.Steps.{Appended, Readiness, Stepped};
+ghost use Rattle.listing.specs.Steps.{Readiness, Stepped};
 ghost use Rattle.listing.specs.PieceLaws.{joined as both};
 use capture::Found;
 use refusals::Refusal;
-
-mod lines;
-mod record;
 
 // What was listed of a part of a capture: how many of its bytes, where the lines end in the output, how many lines there are and how
 // many of them for accepted records, and whether nothing more is to be listed.
@@ -60,7 +58,7 @@ fn list_found(part: &[u8], word: &mut [u8], out: &mut [u8], at: usize, area: &mu
             ended: true,
         },
         Found::Record(serial, profile, next) => {
-            let line = record::record_line(serial, profile, word, out, at, area);
+            let line = records::record_line(serial, profile, word, out, at, area);
             Listed {
                 consumed: next,
                 written: line.end,

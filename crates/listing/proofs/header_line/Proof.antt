@@ -1,5 +1,6 @@
 -- `listing::header_line` meets its contract. Assumes nothing.
-use Rattle.listing.specs.TextLaws.{header-length, decimal-length, puts, puts-none}
+use Rattle.lines.specs.TextLaws.{header-length, decimal-length}
+use Rattle.listing.specs.PutLaws.{puts, puts-none}
 use borrow.Author.Needs.{needs}
 use native.Mathlib.Omega.{arith}
 use Rattle.listing.proofs.header_line.Statement.{statement}
