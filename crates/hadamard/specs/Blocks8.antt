@@ -1,10 +1,11 @@
 -- The first order codeword by blocks: a block is the first one with a bit added. Assumes nothing.
-use Prim.Native.Nat.{ℕ, _+_, _*_, _/_, _%_, _^_, _≤_, _<_}
+use Prim.Native.Nat.{ℕ, _+_, _-_, _*_, _/_, _%_, _^_, _≤_, _<_}
 use native.Mathlib.Nat.{add-zero, zero-add, zero-mul, mod-lt, mod-add-mod, add-mod-mod, div-add-mod'}
+use native.Mathlib.Decide.{decLt}
 use native.Mathlib.Omega.{arith}
-use mathlib.Core.Path.{_≡_, sym, ap, subst, _∙_}
+use mathlib.Core.Path.{_≡_, refl, sym, ap, subst, _∙_}
 use mathlib.Core.List.{List}
-use lib.ListN.{length}
+use lib.ListN.{length, set}
 use lib.IntN.{ℤ, pos, natAbs}
 use lib.Bits.{bitAnd, bitXor, and-block, and-lt, and-zero-r}
 use lib.Count.{ones, ones-cat}
@@ -13,18 +14,15 @@ use mir.Syntax.{w32}
 use mir.Val.{toZ, ofZ}
 use borrow.Rule.Slice.PartMut.{putMid}
 use Rattle.words.specs.Sum.{tabulate}
-use Rattle.words.specs.SumLaws.{length-tabulate, getD-tabulate}
+use Rattle.words.specs.SumLaws.{length-tabulate, getD-tabulate, tabulate-ext, tabulate-getD}
 use Rattle.words.specs.TopBit.{ones-zero}
-use Rattle.words.specs.Written.{Written}
-use Rattle.area.specs.Area.{at, IsBit, Bits}
-use Rattle.area.specs.AreaLaws.{is-bit}
+use Rattle.words.specs.Written.{Written, written-none, written-more}
+use Rattle.area.specs.Area.{at, IsBit}
+use Rattle.area.specs.AreaLaws.{is-bit, bits-xor}
 use Rattle.area.specs.Numbers.{stored}
 use Rattle.hadamard.specs.Bits32.{xor-is}
-use Rattle.words.specs.Parts.{written-part}
-
--- the number at place p of the codeword of mask u and constant s
-abbrev pub affineAt : ℕ → ℤ → ℕ → ℤ
-affineAt u s p = pos ((natAbs s + ones (bitAnd u p)) % 2)
+use Rattle.hadamard.specs.Leaf.{affineAt, repeated, Repeats}
+use Rattle.words.specs.Parts.{back-within}
 
 -- ---- the ones in u AND p, by blocks of 2 ^ h places
 
@@ -59,30 +57,75 @@ module _ (k : ℕ) {t : ℤ} (e : t ≡ pos (k % 2)) where
   pub place-is : {s : ℤ} → IsBit s → toZ w32 (bitXor (ofZ w32 s) (ofZ w32 t)) ≡ pos ((natAbs (stored s) + k) % 2)
   place-is b = xor-is b parity-bit ∙ ap pos (omega (arith, ap natAbs e))
 
--- at place i of a block: that of the first one, with the bit t added
-abbrev pub blockAt : ℤ → List ℤ → ℕ → ℤ
-blockAt t first i = pos ((natAbs t + natAbs (at first i)) % 2)
+-- ---- bits repeated with a bit added
 
-module _ (u : ℕ) (s : ℤ) where
-  pub affine-bits : (n : ℕ) → Bits n (tabulate n (affineAt u s))
-  affine-bits n = record {
-    room = omega (arith, length-tabulate n (affineAt u s));
-    bits = λ p l. parity-bit (natAbs s + ones (bitAnd u p)) (getD-tabulate n (affineAt u s) (pos 0) p l);
+module _ {i b : ℕ} {t : ℤ} {a : List ℤ} (asks : Repeats i b t a) where
+  -- the sum with the number at place q, as the code computes it
+  abbrev new : ℕ → ℤ
+  new q = toZ w32 (bitXor (ofZ w32 (at a q)) (ofZ w32 t))
+
+  new-is : (j q : ℕ) → j < 4 → q ≡ i + j → new q ≡ repeated t i a j
+  new-is j q l e = rw e (bits-xor (asks .bits j l) (asks .added))
+
+  -- the four sums written from place b on
+  pub four-repeated :
+      Written (pos 0) b 4 (repeated t i a) a
+      (set (set (set (set a b (new i)) (b + 1) (new (i + 1))) (b + 2) (new (i + 2))) (b + 3) (new (i + 3)))
+  four-repeated =
+      written-more
+      (written-more
+      (written-more
+      (written-more
+      (written-none (pos 0) b (repeated t i a) a)
+      b _ (omega arith) (omega (arith, asks .room)) (new-is 0 i (omega arith) (omega arith)))
+      (b + 1) _ (omega arith) (omega (arith, asks .room)) (new-is 1 (i + 1) (omega arith) refl))
+      (b + 2) _ (omega arith) (omega (arith, asks .room)) (new-is 2 (i + 2) (omega arith) refl))
+      (b + 3) _ (omega arith) (omega (arith, asks .room)) (new-is 3 (i + 3) (omega arith) refl)
+
+-- the first b numbers are the codeword's
+pub record Affine (u : ℕ) (s : ℤ) (b : ℕ) (a : List ℤ) : Type 0 where
+  pub each : (p : ℕ) → p < b → at a p ≡ affineAt u s p
+
+pub affine-none : (u : ℕ) (s : ℤ) (a : List ℤ) → Affine u s 0 a
+affine-none u s a = record { each = λ p l. absurd (omega arith) }
+
+module _ {u : ℕ} {s : ℤ} {b : ℕ} {a : List ℤ} (w : Affine u s b a) where
+  affine-bit : (p : ℕ) → p < b → IsBit (at a p)
+  affine-bit p l = parity-bit (natAbs s + ones (bitAnd u p)) (w .each p l)
+
+  pub repeats : {t : ℤ} (i : ℕ) → IsBit t → i + 4 ≤ b → b + 4 ≤ length a → Repeats i b t a
+  repeats i bt l room = record { added = bt; source = omega arith; room = room; bits = λ j lj. affine-bit (i + j) (omega arith) }
+
+  repeated-is :
+      (k i : ℕ) {t : ℤ} → k % 8 ≡ 0 → i < 8 → t ≡ pos (ones (bitAnd u k) % 2) → i < b
+      → pos ((natAbs (at a i) + natAbs t) % 2) ≡ affineAt u s (k + i)
+  repeated-is k i e l et lb = rw (w .each i lb, et, ones-block 3 u k i e l) (ap pos (simp (mod-add-mod, add-mod-mod) (omega arith)))
+
+  -- half a block more: b is place i of the block at k
+  pub affine-more :
+      {z : List ℤ} (k i : ℕ) {t : ℤ} → k % 8 ≡ 0 → b ≡ k + i → i + 4 ≤ 8 → i + 4 ≤ b → t ≡ pos (ones (bitAnd u k) % 2)
+      → Written (pos 0) b 4 (repeated t i a) a z → (e : ℕ) → e ≡ b + 4 → Affine u s e z
+  affine-more {z} k i e eb l lb et v n en = record {
+    each = λ p lp. elim (decLt p b) [
+      | yes h ↦ v .below p h ∙ w .each p h
+      | no h ↦
+          let j : b + (p - b) ≡ p = omega arith in
+          let c : k + (i + (p - b)) ≡ p = omega arith in
+          subst (λ (q : ℕ). at z q ≡ affineAt u s p) j
+          (v .within (p - b) (omega arith) ∙ repeated-is k (i + (p - b)) e (omega arith) et (omega arith) ∙ ap (affineAt u s) c)
+    ];
   }
 
-  block-at :
-      (b i : ℕ) (t : ℤ) → b % 8 ≡ 0 → i < 8 → t ≡ pos (ones (bitAnd u b) % 2)
-      → blockAt t (tabulate 8 (affineAt u s)) i ≡ affineAt u s (b + i)
-  block-at b i t e l et =
-      rw (getD-tabulate 8 (affineAt u s) (pos 0) i l, et, ones-block 3 u b i e l) (ap pos (simp (mod-add-mod, add-mod-mod) (omega arith)))
+  pub affine-all : (n : ℕ) → length a ≡ n → n ≡ b → a ≡ tabulate n (affineAt u s)
+  affine-all n e eb = sym (tabulate-getD n a (pos 0) e) ∙ tabulate-ext n _ _ (λ p l. w .each p (omega arith))
 
-  -- a turn of the loop over the blocks
-  pub block-more :
-      {b : ℕ} {xs ys first zs : List ℤ} {t : ℤ} → Written (pos 0) 0 b (affineAt u s) xs ys → b % 8 ≡ 0 → b + 8 ≤ length xs
-      → first ≡ tabulate 8 (affineAt u s) → t ≡ pos (ones (bitAnd u b) % 2) → zs ≡ tabulate 8 (blockAt t first) → (k : ℕ) → k ≡ 8
-      → Written (pos 0) 0 (b + 8) (affineAt u s) xs (putMid b k ys zs)
-  block-more {b} {t = t} w e room ef et ez k ek =
-      let new = blockAt t (tabulate 8 (affineAt u s)) in
-      rw (ek, ez, ef)
-      (written-part w b 8 (tabulate 8 new) (omega arith) room (length-tabulate 8 new)
-      (λ q l. getD-tabulate 8 new (pos 0) q l ∙ block-at b q t e l et))
+-- the first n places, lent and written
+pub affine-front :
+    {u n : ℕ} {s : ℤ} {z : List ℤ} (a : List ℤ) → n ≤ length a → z ≡ tabulate n (affineAt u s) → Affine u s n (putMid 0 n a z)
+affine-front {u} {n} {s} {z} a room ez = record {
+  each = λ p l.
+      ap (at (putMid 0 n a z)) {x = p} {y = 0 + p} (omega arith)
+      ∙ back-within (pos 0) 0 n a (omega arith) z (ap length ez ∙ length-tabulate n (affineAt u s)) p l
+      ∙ ap (λ (x : List ℤ). at x p) ez
+      ∙ getD-tabulate n (affineAt u s) (pos 0) p l;
+}

@@ -27,7 +27,7 @@ signed-bits (suc zero) (suc (suc y)) z h k = absurd (omega arith)
 signed-bits (suc (suc x)) y z h k = absurd (omega arith)
 
 -- two negations by parities are one by the parity of their sum
-signed-sum : (x y n : ℕ) (z : ℤ) → n % 2 ≡ (x + y) % 2 → signed (n % 2) z ≡ signed (x % 2) (signed (y % 2) z)
+pub signed-sum : (x y n : ℕ) (z : ℤ) → n % 2 ≡ (x + y) % 2 → signed (n % 2) z ≡ signed (x % 2) (signed (y % 2) z)
 signed-sum x y n z e =
     let parts : n % 2 ≡ (x % 2 + y % 2) % 2 = omega arith in
     ap (λ (k : ℕ). signed k z) parts ∙ signed-bits (x % 2) (y % 2) z (omega arith) (omega arith)

@@ -1,12 +1,14 @@
 -- What the functions of an order 1 reading ask and promise. Assumes nothing.
-use Prim.Native.Nat.{ℕ, _*_, _^_, _≤_, _<_}
+use Prim.Native.Nat.{ℕ, _+_, _*_, _%_, _^_, _≤_, _<_}
 use mathlib.Core.Path.{_≡_}
 use mathlib.Core.List.{List}
 use lib.ListN.{length}
+use lib.Bits.{bitAnd}
+use lib.Count.{ones}
 use lib.Dec.{eqb}
-use lib.IntN.{ℤ, natAbs}
+use lib.IntN.{ℤ, pos, natAbs}
 use Rattle.words.specs.Sum.{greatestBelow}
-use Rattle.area.specs.Area.{at}
+use Rattle.area.specs.Area.{at, IsBit}
 use Rattle.hadamard.specs.Correlation.{countBelow, firstBelow}
 use Rattle.hadamard.specs.declared.Peak.{Peak}
 
@@ -33,3 +35,18 @@ mostOf a = greatestBelow (length a) (sizes a)
 pub record IsPeak (a : List ℤ) (p : Peak) : Type 0 where
   pub mask : p .mask ≡ firstBelow (length a) (sizes a) (mostOf a)
   pub alone : p .alone ≡ eqb (countBelow (length a) (sizes a) (mostOf a)) 1
+
+-- the number at place p of the codeword of mask u and constant s
+abbrev pub affineAt : ℕ → ℤ → ℕ → ℤ
+affineAt u s p = pos ((natAbs s + ones (bitAnd u p)) % 2)
+
+-- the bit at place i + j of a with the bit t added
+abbrev pub repeated : ℤ → ℕ → List ℤ → ℕ → ℤ
+repeated t i a j = pos ((natAbs (at a (i + j)) + natAbs t) % 2)
+
+-- bits at the four places from i on, and four places from b on for them with the bit t added
+pub record Repeats (i b : ℕ) (t : ℤ) (a : List ℤ) : Type 0 where
+  pub added : IsBit t
+  pub source : i + 4 ≤ length a
+  pub room : b + 4 ≤ length a
+  pub bits : (j : ℕ) → j < 4 → IsBit (at a (i + j))

@@ -2,24 +2,24 @@
 use Prim.Native.Nat.{ℕ, suc, _+_, _*_, _%_, _^_, _≤_, _<_}
 use mathlib.Core.Path.{_≡_, refl, sym, ap, ap₂, _∙_}
 use mathlib.Core.List.{List}
-use native.Mathlib.Decide.{decLt}
 use native.Mathlib.Nat.{zero-mul, add-mul, mul-add, mul-le-mul-left, mul-le-mul-right}
 use native.Mathlib.Omega.{arith}
 use lib.Bits.{bitAnd, and-lt}
 use lib.Count.{ones}
-use lib.IntN.{ℤ, pos, negℤ, natAbs, negℤ-negℤ, _+ℤ_, _-ℤ_, +ℤ-idl}
+use lib.IntN.{ℤ, pos, negℤ, natAbs, _+ℤ_, _-ℤ_, +ℤ-idl}
 use lib.ListN.{length, set}
 use lib.Pow.{pow-mono}
 use lib.Seq.{ext-getD}
 use Rattle.area.specs.Area.{at}
 use Rattle.area.specs.Numbers.{Half, difference-stored, natAbs-add, natAbs-neg, stored, sum-stored}
 use Rattle.hadamard.specs.Correlation.{correlation, signed}
+use Rattle.hadamard.specs.CorrelationLaws.{correlation-zero, signed-sum}
 use Rattle.hadamard.specs.Leaf.{Summable}
 use Rattle.words.specs.Butterflies.{Entries, Rule, halved}
 use Rattle.words.specs.ButterflyLaws.{ByHalves, PairsDone, halved-entry, length-halved, pair-room, pairs-more}
 use Rattle.words.specs.Sum.{tabulate, total}
 use Rattle.words.specs.SumLaws.{getD-tabulate, length-tabulate, sumℤ-ext, sumℤ-halves, sumℤ-neg}
-use Rattle.words.specs.TopBit.{and-low-top, and-top-low, and-top-top, ones-top, ones-zero, pow-double}
+use Rattle.words.specs.TopBit.{and-low-top, and-top-low, and-top-top, ones-top, pow-double}
 
 -- j levels of sums of numbers of this size fit 32 bits
 abbrev pub Small : ℕ → ℤ → Type 0
@@ -46,21 +46,14 @@ sums = record {
 
 -- ---- correlations by halves
 
--- one more negates
-signed-suc : (n : ℕ) (z : ℤ) → signed (suc n % 2) z ≡ negℤ (signed (n % 2) z)
-signed-suc n z = elim (decLt (n % 2) 1) [
-  | yes l ↦ let a : n % 2 ≡ 0 = omega arith in let b : suc n % 2 ≡ 1 = omega arith in rw (a, b)
-  | no k ↦ let a : n % 2 ≡ 1 = omega arith in let b : suc n % 2 ≡ 0 = omega arith in rw (a, b) (sym (negℤ-negℤ z))
-]
-
 module _ (m : ℕ) (v : ℕ → ℤ) (u : ℕ) (h : u < 2 ^ m) where
-  correlation-low : correlation (suc m) v u ≡ correlation m v u +ℤ correlation m (λ p. v (2 ^ m + p)) u
+  pub correlation-low : correlation (suc m) v u ≡ correlation m v u +ℤ correlation m (λ p. v (2 ^ m + p)) u
   unfolding correlation
   correlation-low =
       sumℤ-halves m (λ p. signed (ones (bitAnd u p) % 2) (v p))
       ∙ ap (λ (z : ℤ). correlation m v u +ℤ z) (sumℤ-ext (2 ^ m) _ _ (λ p l. ap (λ (i : ℕ). signed (ones i % 2) (v (2 ^ m + p))) (and-low-top m u p h l)))
 
-  correlation-top : correlation (suc m) v (2 ^ m + u) ≡ correlation m v u -ℤ correlation m (λ p. v (2 ^ m + p)) u
+  pub correlation-top : correlation (suc m) v (2 ^ m + u) ≡ correlation m v u -ℤ correlation m (λ p. v (2 ^ m + p)) u
   unfolding correlation
   correlation-top =
       sumℤ-halves m (λ p. signed (ones (bitAnd (2 ^ m + u) p) % 2) (v p))
@@ -68,17 +61,13 @@ module _ (m : ℕ) (v : ℕ → ℤ) (u : ℕ) (h : u < 2 ^ m) where
       (sumℤ-ext (2 ^ m) _ _ (λ p l. ap (λ (i : ℕ). signed (ones i % 2) (v p)) (and-top-low m u p h l)))
       (sumℤ-ext (2 ^ m) _ (λ p. negℤ (signed (ones (bitAnd u p) % 2) (v (2 ^ m + p))))
       (λ p l. ap (λ (i : ℕ). signed (i % 2) (v (2 ^ m + p))) (ap ones (and-top-top m u p h l) ∙ ones-top m (bitAnd u p) (and-lt m u p h l))
-      ∙ signed-suc (ones (bitAnd u p)) (v (2 ^ m + p)))
+      ∙ signed-sum 1 (ones (bitAnd u p)) (suc (ones (bitAnd u p))) (v (2 ^ m + p)) (omega arith))
       ∙ sumℤ-neg (2 ^ m) (λ p. signed (ones (bitAnd u p) % 2) (v (2 ^ m + p))))
 
-correlation-zero : (v : ℕ → ℤ) → correlation 0 v 0 ≡ v 0
-unfolding correlation total
-correlation-zero v = +ℤ-idl _ ∙ ap (λ (i : ℕ). signed (i % 2) (v 0)) ones-zero
-
 correlation-by-halves : ByHalves sums (λ x. x) correlation
-unfolding sums
+unfolding sums total
 correlation-by-halves = record {
-  start = λ x f e. e ∙ sym (correlation-zero f);
+  start = λ x f e. e ∙ sym (correlation-zero 0 f ∙ +ℤ-idl (f 0));
   low = λ m f u h x y ex ey. ap₂ _+ℤ_ ex ey ∙ sym (correlation-low m f u h);
   high = λ m f u h x y ex ey. ap₂ _-ℤ_ ex ey ∙ sym (correlation-top m f u h);
 }

@@ -1,15 +1,15 @@
 // The steps of an order 1 reading: signs, correlations, the best mask, and its codeword.
 ghost use mathlib.Core.Path.{_≡_};
-ghost use Prim.Native.Nat.{_+_, _%_, _^_, _<_, _≤_};
+ghost use Prim.Native.Nat.{_+_, _%_, _^_, _<_};
 ghost use lib.ListN.{length};
 ghost use lib.IntN.{pos, natAbs};
 ghost use lib.Bits.{bitAnd};
 ghost use lib.Count.{ones};
 ghost use Rattle.words.specs.Sum.{tabulate};
+ghost use Rattle.words.specs.Written.{Written};
 ghost use Rattle.area.specs.Area.{IsBit, Bits, wordOf};
 ghost use Rattle.hadamard.specs.Correlation.{values, countBelow, firstBelow};
-ghost use Rattle.hadamard.specs.Leaf.{sizes, mostOf, Sized, IsPeak};
-ghost use Rattle.hadamard.specs.Blocks8.{affineAt, blockAt};
+ghost use Rattle.hadamard.specs.Leaf.{sizes, mostOf, Sized, IsPeak, affineAt, repeated, Repeats};
 
 pub mod transform;
 
@@ -94,14 +94,15 @@ pub fn best(a: &[i32]) -> Peak
 
 // The parity of the ones in u.
 fn parity(u: usize) -> i32
+    requires { ⌜ u < 2 ^ 32 ⌝ }
     ensures { λ t. ⌜ t ≡ pos (ones u % 2) ⌝ }
 {
-    (usize::count_ones(u) % 2) as i32
+    (u32::count_ones(u as u32) % 2) as i32
 }
 
 // The first order codeword of mask u and constant s, a parity for each place.
 fn by_place(a: &mut [i32], u: usize, s: i32)
-    requires { ⌜ IsBit s ⌝ }
+    requires { ⌜ IsBit s × (u < 2 ^ 32) ⌝ }
     ensures { λ _. ⌜ now (a .exit) ≡ tabulate (length (now (a .entry))) (affineAt u s) ⌝ }
 {
     for p in 0..a.len() {
@@ -109,32 +110,41 @@ fn by_place(a: &mut [i32], u: usize, s: i32)
     }
 }
 
-// One block of 8 places: those of the first block with the bit t added.
-fn block(a: &mut [i32], first: &[i32], t: i32)
-    requires { ⌜ IsBit t × (length (now a) ≡ 8) × Bits 8 (now first) ⌝ }
-    ensures { λ _. ⌜ now (a .exit) ≡ tabulate 8 (blockAt t (now (first .entry))) ⌝ }
+// Four places from b on: those from i on with the bit t added.
+// All are read before any is written, so that the compiler takes them together.
+fn repeat_four(a: &mut [i32], i: usize, b: usize, t: i32)
+    requires { ⌜ Repeats i b t (now a) ⌝ }
+    ensures { λ _. ⌜ Written (pos 0) b 4 (repeated t i (now (a .entry))) (now (a .entry)) (now (a .exit)) ⌝ }
 {
-    for i in 0..8 {
-        a[i] = t ^ first[i];
-    }
+    let x0 = a[i] ^ t;
+    let x1 = a[i + 1] ^ t;
+    let x2 = a[i + 2] ^ t;
+    let x3 = a[i + 3] ^ t;
+    a[b] = x0;
+    a[b + 1] = x1;
+    a[b + 2] = x2;
+    a[b + 3] = x3;
 }
 
-// The first order codeword of mask u and constant s: a parity for each of the first 8 places, and one for each block of 8.
+// The first order codeword of mask u and constant s: a parity for each of the first 8 places, and one for each further block of 8.
 pub fn write_affine(a: &mut [i32], u: usize, s: i32)
-    requires { ⌜ IsBit s × (u < 1024) × (length (now a) ≤ 1024) ⌝ }
+    requires { ⌜ IsBit s × (u < 1024) ⌝ }
     ensures { λ _. ⌜ now (a .exit) ≡ tabulate (length (now (a .entry))) (λ p. pos ((natAbs s + ones (bitAnd u p)) % 2)) ⌝ }
 {
     let n = a.len();
+    if n == 0 {
+        return;
+    }
     if n % 8 != 0 {
         by_place(a, u, s);
         return;
     }
-    let mut first = [0i32; 8];
-    by_place(&mut first, u, s);
-    let mut b = 0;
-    while b < n {
-        let e = b + 8;
-        block(&mut a[b..e], &first, parity(u & b));
-        b = e;
+    by_place(&mut a[0..8], u, s);
+    let mut b = 8;
+    while b != n {
+        let t = parity(u & b);
+        repeat_four(a, 0, b, t);
+        repeat_four(a, 4, b + 4, t);
+        b += 8;
     }
 }

@@ -33,36 +33,35 @@ fn two(a: &mut [i32])
     butterfly(a, 1);
 }
 
-// The transform of 4 numbers.
+// The transform of 4 numbers: all are read before any is written, so that the compiler takes them together.
 fn four(a: &mut [i32])
     requires { ⌜ Entries sums 4 2 (now a) ⌝ }
     ensures { λ _. ⌜ now (a .exit) ≡ halved sums 2 (now (a .entry)) ⌝ }
 {
-    two(&mut a[0..2]);
-    two(&mut a[2..4]);
-    butterfly(a, 2);
+    let x0 = a[0];
+    let x1 = a[1];
+    let x2 = a[2];
+    let x3 = a[3];
+    let s = x0 + x1;
+    let d = x0 - x1;
+    let t = x2 + x3;
+    let e = x2 - x3;
+    a[0] = s + t;
+    a[1] = d + e;
+    a[2] = s - t;
+    a[3] = d - e;
 }
 
-// The transform of 8 numbers.
-fn eight(a: &mut [i32])
-    requires { ⌜ Entries sums 8 3 (now a) ⌝ }
-    ensures { λ _. ⌜ now (a .exit) ≡ halved sums 3 (now (a .entry)) ⌝ }
-{
-    four(&mut a[0..4]);
-    four(&mut a[4..8]);
-    butterfly(a, 4);
-}
-
-// The transform of each block of 8 numbers.
-fn eights(a: &mut [i32])
-    requires { ⌜ Blocked sums 8 3 (now a) ⌝ }
-    ensures { λ _. ⌜ BlocksDone (halved sums 3) 8 (length (now (a .entry))) (now (a .entry)) (now (a .exit)) ⌝ }
+// The transform of each block of 4 numbers.
+fn fours(a: &mut [i32])
+    requires { ⌜ Blocked sums 4 2 (now a) ⌝ }
+    ensures { λ _. ⌜ BlocksDone (halved sums 2) 4 (length (now (a .entry))) (now (a .entry)) (now (a .exit)) ⌝ }
 {
     let n = a.len();
     let mut b = 0;
     while b < n {
-        let e = b + 8;
-        eight(&mut a[b..e]);
+        let e = b + 4;
+        four(&mut a[b..e]);
         b = e;
     }
 }
@@ -82,7 +81,7 @@ fn level(a: &mut [i32], h: usize)
     }
 }
 
-// The correlation of every mask with the values in a, in place: blocks of 8 first, then level by level.
+// The correlation of every mask with the values in a, in place: blocks of 4 first, then level by level.
 pub fn correlate(a: &mut [i32], m: usize)
     requires { ⌜ Summable m (now a) ⌝ }
     ensures { λ _. ⌜ now (a .exit) ≡ tabulate (2 ^ m) (correlation m (at (now (a .entry)))) ⌝ }
@@ -94,12 +93,8 @@ pub fn correlate(a: &mut [i32], m: usize)
         two(a);
         return;
     }
-    if m == 2 {
-        four(a);
-        return;
-    }
-    eights(a);
-    let mut h: usize = 8;
+    fours(a);
+    let mut h: usize = 4;
     while h < a.len() {
         level(a, h);
         h = h + h;

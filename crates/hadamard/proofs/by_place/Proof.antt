@@ -4,7 +4,7 @@ use mathlib.Core.Path.{_≡_, refl, ap, _∙_}
 use native.Mathlib.Omega.{arith}
 use borrow.Author.Needs.{needs}
 use lib.ListN.{length}
-use lib.Bits.{bitAnd}
+use lib.Bits.{bitAnd, and-le-l}
 use lib.Count.{ones}
 use lib.IntN.{ℤ, pos}
 use Rattle.words.specs.Sum.{tabulate}
@@ -12,7 +12,8 @@ use mir.Syntax.{w32}
 use mir.Val.{toZ}
 use Rattle.words.specs.Written.{Written, written-none, written-more, written-to, written-all}
 use Rattle.area.specs.AreaLaws.{bit-back}
-use Rattle.hadamard.specs.Blocks8.{affineAt, place-is}
+use Rattle.hadamard.specs.Leaf.{affineAt}
+use Rattle.hadamard.specs.Blocks8.{place-is}
 use Rattle.hadamard.proofs.by_place.Statement.{statement}
 use Rattle.hadamard.proofs.by_place.Tie as tie
 
@@ -26,7 +27,7 @@ loop-holds : tie.Need-loop-holds Inv-loop μ-loop
 loop-holds c = (refl, omega arith, refl, written-none _ _ _ _)
 
 parity-requires : tie.Need-parity-requires Inv-loop μ-loop
-parity-requires c κs = search needs
+parity-requires c κs = omega (arith, and-le-l (c .before .before .args .u) (c .before .loop .p))
 
 mul-t10 : tie.Need-mul-t10 Inv-loop μ-loop
 mul-t10 c = search needs
@@ -44,7 +45,7 @@ loop-again : tie.Need-loop-again Inv-loop μ-loop
 loop-again c =
     let s = c .before .before .before in
     let l = c .before .before .loop in
-    let e = place-is (ones (bitAnd (s .args .u) (l .p))) (c .parity .ensures) (s .pre) in
+    let e = place-is (ones (bitAnd (s .args .u) (l .p))) (c .parity .ensures) (s .pre .0) in
     let w = written-more (l .inv .3) (l .p) _ (omega arith) (omega arith) e in
     (refl, omega arith, w .long, w)
 
@@ -55,7 +56,7 @@ returns : tie.Need-returns Inv-loop μ-loop
 returns c =
     let s = c .before .before in
     let n = length (s .args .a .now) in
-    written-all (written-to (c .before .loop .inv .3) n (omega arith)) refl ∙ ap (λ (z : ℤ). tabulate n (affineAt (s .args .u) z)) (bit-back (s .pre))
+    written-all (written-to (c .before .loop .inv .3) n (omega arith)) refl ∙ ap (λ (z : ℤ). tabulate n (affineAt (s .args .u) z)) (bit-back (s .pre .0))
 
 pub by-place-spec : {M : Type 1} → statement M
 by-place-spec =

@@ -8,8 +8,11 @@ use Rattle.hadamard.proofs.parity.Tie as tie
 cast-result : tie.Need-cast-result
 cast-result c = search needs
 
+cast-result-2 : tie.Need-cast-result-2
+cast-result-2 c = search needs
+
 returns : tie.Need-returns
 returns c = byte-number _ (omega arith)
 
 pub parity-spec : {M : Type 1} → statement M
-parity-spec = tie.close (tie.spec cast-result returns)
+parity-spec = tie.close (tie.spec cast-result cast-result-2 returns)

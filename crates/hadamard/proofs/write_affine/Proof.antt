@@ -1,100 +1,128 @@
 -- `hadamard::write_affine` meets its contract: each turn of the loop writes one block of 8 places. Assumes nothing.
-use Prim.Native.Nat.{_-_, _≤_, _+_, _%_}
-use mathlib.Core.Path.{_≡_, refl, sym, ap, subst, _∙_}
+use Prim.Native.Nat.{_+_, _-_, _%_, _^_, _≤_, _<_}
+use mathlib.Core.Path.{_≡_, refl, ap, _∙_}
 use native.Mathlib.Omega.{arith}
 use borrow.Author.Needs.{needs}
+use lib.Bits.{bitAnd, and-le-l}
+use lib.Count.{ones}
 use lib.ListN.{length}
 use lib.IntN.{ℤ, pos}
 use mir.Syntax.{w32}
 use mir.Val.{toZ}
 use Rattle.words.specs.Sum.{tabulate}
-use Rattle.words.specs.Written.{Written, written-none, written-to, written-all}
-use Rattle.words.specs.Parts.{part-length}
-use Rattle.area.specs.Area.{Bits}
+use Rattle.words.specs.Parts.{front-length, back-length}
+use Rattle.area.specs.Area.{IsBit}
 use Rattle.area.specs.AreaLaws.{bit-back}
 use Rattle.area.specs.Numbers.{stored}
-use Rattle.hadamard.specs.Blocks8.{affineAt, parity-bit, affine-bits, block-more}
+use Rattle.hadamard.specs.Leaf.{affineAt}
+use Rattle.hadamard.specs.Blocks8.{parity-bit, Affine, affine-none, repeats, affine-more, affine-all, affine-front}
 use Rattle.hadamard.proofs.write_affine.Statement.{statement}
 use Rattle.hadamard.proofs.write_affine.Tie as tie
 
 abbrev Inv-loop : tie.InvT-loop
-Inv-loop a₀ u s n first b₀ a b = (b % 8 ≡ 0) × (b ≤ length a₀) × (length a ≡ length a₀) × Written (pos 0) 0 b (affineAt u (toZ w32 s)) a₀ a
+Inv-loop a₀ u s n b₀ a b = (b % 8 ≡ 0) × (8 ≤ b) × (b ≤ n) × (length a ≡ n) × Affine u (toZ w32 s) b a
 
 abbrev μ-loop : tie.MeasureT-loop
-μ-loop a₀ u s n first b₀ a b = length a₀ - b
+μ-loop a₀ u s n b₀ a b = n - b
+
+returns : tie.Need-returns Inv-loop μ-loop
+returns c = let s = c .before .args in affine-all (affine-none (s .u) (s .s) (s .a .now)) _ refl (c .if1 .taken)
+
+-- what both calls ask
+asks : (c : tie.Start Inv-loop μ-loop) → IsBit (stored (c .args .s)) × (c .args .u < 2 ^ 32)
+asks c = (rw (bit-back (c .pre .0)) (c .pre .0), omega (arith, c .pre .1))
 
 by-place-requires : tie.Need-by-place-requires Inv-loop μ-loop
-by-place-requires c κs = rw (bit-back (c .before .before .pre .0)) (c .before .before .pre .0)
+by-place-requires c κs = asks (c .before .before .before)
 
 same-length : tie.Need-same-length Inv-loop μ-loop
 same-length c = c .before .by-place .kept .0
 
-returns : tie.Need-returns Inv-loop μ-loop
-returns c =
-    let s = c .before .before .before .before in
+returns-2 : tie.Need-returns-2 Inv-loop μ-loop
+returns-2 c =
+    let s = c .before .before .before .before .before in
     c .before .by-place .ensures ∙ ap (λ (z : ℤ). tabulate (length (s .args .a .now)) (affineAt (s .args .u) z)) (bit-back (s .pre .0))
 
-slice-aggregate-by-place : tie.Need-slice-aggregate-by-place Inv-loop μ-loop
-slice-aggregate-by-place c = refl
+sub-by-place : tie.Need-sub-by-place Inv-loop μ-loop
+sub-by-place c = search needs
+
+part-by-place-start : tie.Need-part-by-place-start Inv-loop μ-loop
+part-by-place-start c = search needs
+
+part-by-place-end : tie.Need-part-by-place-end Inv-loop μ-loop
+part-by-place-end c = omega arith
 
 by-place-requires-2 : tie.Need-by-place-requires-2 Inv-loop μ-loop
-by-place-requires-2 c κs = rw (bit-back (c .before .before .pre .0)) (c .before .before .pre .0)
+by-place-requires-2 c κs = asks (c .before .before .before)
 
 loop-holds : tie.Need-loop-holds Inv-loop μ-loop
-loop-holds c = (omega arith, omega arith, refl, written-none _ _ _ _)
-
-add-e : tie.Need-add-e Inv-loop μ-loop
-add-e c = search needs
-
-mul-block : tie.Need-mul-block Inv-loop μ-loop
-mul-block c = omega arith
-
-sub-block : tie.Need-sub-block Inv-loop μ-loop
-sub-block c = omega arith
-
-part-block-start : tie.Need-part-block-start Inv-loop μ-loop
-part-block-start c = omega arith
-
-part-block-end : tie.Need-part-block-end Inv-loop μ-loop
-part-block-end c = omega arith
-
-slice-aggregate-block : tie.Need-slice-aggregate-block Inv-loop μ-loop
-slice-aggregate-block c = sym (c .before .before .before .before .before .by-place2 .kept .0)
+loop-holds c =
+    let a = c .before .before .before .before .before .args .a .now in
+    let room : 8 ≤ length a = omega arith in
+    let size = front-length 8 a room in (
+      refl,
+      omega arith,
+      room,
+      back-length (pos 0) 0 8 a room (c .before .by-place2 .last .0) (c .before .by-place2 .kept .0 ∙ size),
+      affine-front a room (rw size at (c .before .by-place2 .ensures)),
+    )
 
 parity-requires : tie.Need-parity-requires Inv-loop μ-loop
-parity-requires c κs = tt
+parity-requires c κs = omega (arith, and-le-l (c .before .before .before .before .before .before .before .args .u) (c .before .loop .b))
 
-block-requires : tie.Need-block-requires Inv-loop μ-loop
-block-requires c κs =
-    let s = c .before .before .before .before .before .before .before .before .before .args in
-    let l = c .before .before .before .before .loop in
-    let t = parity-bit _ (c .parity .ensures) in (
-      rw (bit-back t) t,
-      part-length (pos 0) (l .b) (l .b + 8 - l .b) (l .a) (omega arith) ∙ omega arith,
-      subst (Bits 8) (sym (c .before .before .before .before .before .before .by-place2 .ensures)) (affine-bits (s .u) (stored (s .s)) 8),
-    )
+-- the block's parity, as the calls are given it
+added : (c : tie.After-parity Inv-loop μ-loop) → let s = c .before .before .before .before .before .before .before .before .args in
+    stored (c .parity .result) ≡ pos (ones (bitAnd (s .u) (c .before .before .loop .b)) % 2)
+added c = bit-back (parity-bit _ (c .parity .ensures)) ∙ c .parity .ensures
+
+repeat-four-requires : tie.Need-repeat-four-requires Inv-loop μ-loop
+repeat-four-requires c κs =
+    repeats (c .before .before .before .loop .inv .4) 0 (parity-bit _ (added (c .before))) (omega arith) (omega arith)
+
+-- half of the block is written
+half : (c : tie.After-a3 Inv-loop μ-loop) → let l = c .before .before .before .before .before in
+    let s = l .before .before .before .before .before .before .args in
+    Affine (s .u) (stored (s .s)) (l .loop .b + 4) (c .before .repeat-four .last .0)
+half c =
+    let l = c .before .before .before .before .before .loop in
+    let t = added (c .before .before .before) in
+    let w = c .before .repeat-four .ensures in
+    affine-more (l .inv .4) (l .b) 0 (l .inv .0) (omega arith) (omega arith) (omega arith) t w (l .b + 4) refl
+
+add-repeat-four : tie.Need-add-repeat-four Inv-loop μ-loop
+add-repeat-four c = search needs
+
+repeat-four-requires-2 : tie.Need-repeat-four-requires-2 Inv-loop μ-loop
+repeat-four-requires-2 c κs =
+    repeats (half (c .before)) 4 (parity-bit _ (added (c .before .before .before .before))) (omega arith) (omega arith)
+
+add-b : tie.Need-add-b Inv-loop μ-loop
+add-b c = omega arith
 
 loop-less : tie.Need-loop-less Inv-loop μ-loop
 loop-less c = omega arith
 
 loop-again : tie.Need-loop-again Inv-loop μ-loop
 loop-again c =
-    let s = c .before .before .before .before .before .before .before .before .before .before .before .args in
-    let l = c .before .before .before .before .before .before .loop in
-    let t = c .before .before .parity .ensures in
-    let w =
-    block-more (s .u) (stored (s .s)) (l .inv .3) (l .inv .0) (omega arith) (c .before .before .before .before .before .before .before .before .by-place2 .ensures)
-    (bit-back (parity-bit _ t) ∙ t) (c .before .block .ensures) (l .b + 8 - l .b) (omega arith) in
-    (omega arith, omega arith, w .long, w)
+    let l = c .before .before .before .before .before .before .before .before .loop in
+    let w = c .before .repeat-four2 .ensures in
+    let t = added (c .before .before .before .before .before .before) in (
+      omega arith,
+      omega arith,
+      omega arith,
+      w .long ∙ c .before .before .before .before .repeat-four .ensures .long ∙ l .inv .3,
+      affine-more (half (c .before .before .before)) (l .b) 4 (l .inv .0) refl (omega arith) (omega arith) t w (l .b + 8) (omega arith),
+    )
 
 same-length-2 : tie.Need-same-length-2 Inv-loop μ-loop
 same-length-2 c = omega arith
 
-returns-2 : tie.Need-returns-2 Inv-loop μ-loop
-returns-2 c =
-    let s = c .before .before .before .before .before .before in
+returns-3 : tie.Need-returns-3 Inv-loop μ-loop
+returns-3 c =
+    let s = c .before .before .before .before .before .before .before in
     let n = length (s .args .a .now) in
-    written-all (written-to (c .before .loop .inv .3) n (omega arith)) refl ∙ ap (λ (z : ℤ). tabulate n (affineAt (s .args .u) z)) (bit-back (s .pre .0))
+    affine-all (c .before .loop .inv .4) n (omega arith) (omega arith)
+    ∙ ap (λ (z : ℤ). tabulate n (affineAt (s .args .u) z)) (bit-back (s .pre .0))
 
 pub write-affine-spec : {M : Type 1} → statement M
 write-affine-spec =
@@ -102,21 +130,21 @@ write-affine-spec =
     (tie.spec
     Inv-loop
     μ-loop
+    returns
     by-place-requires
     same-length
-    returns
-    slice-aggregate-by-place
+    returns-2
+    sub-by-place
+    part-by-place-start
+    part-by-place-end
     by-place-requires-2
     loop-holds
-    add-e
-    mul-block
-    sub-block
-    part-block-start
-    part-block-end
-    slice-aggregate-block
     parity-requires
-    block-requires
+    repeat-four-requires
+    add-repeat-four
+    repeat-four-requires-2
+    add-b
     loop-less
     loop-again
     same-length-2
-    returns-2)
+    returns-3)

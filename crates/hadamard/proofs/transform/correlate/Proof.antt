@@ -12,7 +12,7 @@ use Rattle.hadamard.proofs.transform.correlate.Statement.{statement}
 use Rattle.hadamard.proofs.transform.correlate.Tie as tie
 
 abbrev Inv-loop : tie.InvT-loop
-Inv-loop a₀ m h₀ a h = (x : List ℤ) → Entries sums (2 ^ m) m x → Transformed sums m 8 x a₀ → Transformed sums m h x a
+Inv-loop a₀ m h₀ a h = (x : List ℤ) → Entries sums (2 ^ m) m x → Transformed sums m 4 x a₀ → Transformed sums m h x a
 
 abbrev μ-loop : tie.MeasureT-loop
 μ-loop a₀ m h₀ a h = 2 ^ m - h
@@ -31,19 +31,8 @@ returns-2 c =
     halved-at sums _ (c .before .before .before .if2 .taken) (c .before .two .ensures)
     ∙ halved-correlation _ _ (c .before .before .before .before .before .pre .size)
 
-four-requires : tie.Need-four-requires Inv-loop μ-loop
-four-requires c κs = rw (c .before .if3 .taken) at (summable-entries (c .before .before .before .before .pre))
-
-same-length-2 : tie.Need-same-length-2 Inv-loop μ-loop
-same-length-2 c = c .before .four .kept .0
-
-returns-3 : tie.Need-returns-3 Inv-loop μ-loop
-returns-3 c =
-    halved-at sums _ (c .before .before .before .if3 .taken) (c .before .four .ensures)
-    ∙ halved-correlation _ _ (c .before .before .before .before .before .before .pre .size)
-
-eights-requires : tie.Need-eights-requires Inv-loop μ-loop
-eights-requires c κs = whole-blocks sums (summable-entries (c .before .before .before .before .pre)) 3 3 (omega arith) (omega arith)
+fours-requires : tie.Need-fours-requires Inv-loop μ-loop
+fours-requires c κs = whole-blocks sums (summable-entries (c .before .before .before .pre)) 2 2 (omega arith) (omega arith)
 
 loop-holds : tie.Need-loop-holds Inv-loop μ-loop
 loop-holds c = λ x e t. t
@@ -51,37 +40,37 @@ loop-holds c = λ x e t. t
 -- the loop's list, of the function's own argument
 far :
     (c : tie.At-loop Inv-loop μ-loop)
-    → Transformed sums (c .before .before .before .before .before .before .before .args .m) (c .loop .h) (c .before .before .before .before .before .before .before .args .a .now) (c .loop .a)
+    → Transformed sums (c .before .before .before .before .before .before .args .m) (c .loop .h) (c .before .before .before .before .before .before .args .a .now) (c .loop .a)
 far c =
-    let e = summable-entries (c .before .before .before .before .before .before .before .pre) in
-    c .loop .inv _ e (transformed-blocks sums e 3 (omega arith) (c .before .before .eights .ensures))
+    let e = summable-entries (c .before .before .before .before .before .before .pre) in
+    c .loop .inv _ e (transformed-blocks sums e 2 (omega arith) (c .before .before .fours .ensures))
 
 level-requires : tie.Need-level-requires Inv-loop μ-loop
-level-requires c κs = next-level sums (summable-entries (c .before .before .before .before .before .before .before .before .before .pre)) (far (c .before .before)) (omega arith)
+level-requires c κs = next-level sums (summable-entries (c .before .before .before .before .before .before .before .before .pre)) (far (c .before .before)) (omega arith)
 
 add-h : tie.Need-add-h Inv-loop μ-loop
 add-h c =
-    let e = summable-entries (c .before .before .before .before .before .before .before .before .before .before .before .pre) in
+    let e = summable-entries (c .before .before .before .before .before .before .before .before .before .before .pre) in
     let t = far (c .before .before .before .before) in
-    omega (arith, next-level sums e t (omega arith) .fits, transformed-length sums e t, e .size, c .before .before .before .before .before .before .before .before .before .before .before .good .0 .0)
+    omega (arith, next-level sums e t (omega arith) .fits, transformed-length sums e t, e .size, c .before .before .before .before .before .before .before .before .before .before .good .0 .0)
 
 loop-less : tie.Need-loop-less Inv-loop μ-loop
 loop-less c =
-    let e = summable-entries (c .before .before .before .before .before .before .before .before .before .before .before .pre) in
+    let e = summable-entries (c .before .before .before .before .before .before .before .before .before .before .pre) in
     let t = far (c .before .before .before .before) in
     omega (arith, next-level sums e t (omega arith) .some, transformed-length sums e t)
 
 loop-again : tie.Need-loop-again Inv-loop μ-loop
 loop-again c = λ x e t. level-done sums e (c .before .before .before .before .loop .inv x e t) (omega arith) (c .before .level .ensures)
 
-same-length-3 : tie.Need-same-length-3 Inv-loop μ-loop
-same-length-3 c =
-    let e = summable-entries (c .before .before .before .before .before .before .before .before .pre) in
+same-length-2 : tie.Need-same-length-2 Inv-loop μ-loop
+same-length-2 c =
+    let e = summable-entries (c .before .before .before .before .before .before .before .pre) in
     omega (arith, transformed-length sums e (far (c .before)), e .size)
 
-returns-4 : tie.Need-returns-4 Inv-loop μ-loop
-returns-4 c =
-    let h = c .before .before .before .before .before .before .before .before .pre in
+returns-3 : tie.Need-returns-3 Inv-loop μ-loop
+returns-3 c =
+    let h = c .before .before .before .before .before .before .before .pre in
     transformed-all sums (summable-entries h) (far (c .before)) (omega arith) ∙ halved-correlation _ _ (h .size)
 
 pub correlate-spec : {M : Type 1} → statement M
@@ -94,14 +83,11 @@ correlate-spec =
     two-requires
     same-length
     returns-2
-    four-requires
-    same-length-2
-    returns-3
-    eights-requires
+    fours-requires
     loop-holds
     level-requires
     add-h
     loop-less
     loop-again
-    same-length-3
-    returns-4)
+    same-length-2
+    returns-3)

@@ -1,56 +1,83 @@
--- `hadamard::transform::four` meets its contract: two halves, then their butterflies. Assumes nothing.
-use mathlib.Core.Path.{refl}
-use Rattle.words.specs.Levels.{first-lent, second-lent, halves-ready, halves-joined}
-use Rattle.hadamard.specs.Transform.{sums}
+-- `hadamard::transform::four` meets its contract: all four numbers are read before the first is set. Assumes nothing.
 use borrow.Author.Needs.{needs}
+use Rattle.area.specs.Numbers.{sum-fits, difference-fits}
+use Rattle.hadamard.specs.Fours.{entry-half, plus-half, minus-half, four-summed}
 use Rattle.hadamard.proofs.transform.four.Statement.{statement}
 use Rattle.hadamard.proofs.transform.four.Tie as tie
 
-sub-two : tie.Need-sub-two
-sub-two c = search needs
+slice-copy-out-x0 : tie.Need-slice-copy-out-x0
+slice-copy-out-x0 c = search needs
 
-part-two-start : tie.Need-part-two-start
-part-two-start c = search needs
+slice-copy-out-x1 : tie.Need-slice-copy-out-x1
+slice-copy-out-x1 c = search needs
 
-part-two-end : tie.Need-part-two-end
-part-two-end c = search needs
+slice-copy-out-x2 : tie.Need-slice-copy-out-x2
+slice-copy-out-x2 c = search needs
 
-two-requires : tie.Need-two-requires
-two-requires c κs = first-lent sums refl refl (c .before .pre) refl
+slice-copy-out-x3 : tie.Need-slice-copy-out-x3
+slice-copy-out-x3 c = search needs
 
-sub-two-2 : tie.Need-sub-two-2
-sub-two-2 c = search needs
+add-s : tie.Need-add-s
+add-s c = let e = c .before .before .before .before .pre in sum-fits (entry-half e 0) (entry-half e 1)
 
-part-two-start-2 : tie.Need-part-two-start-2
-part-two-start-2 c = search needs
+sub-d : tie.Need-sub-d
+sub-d c = let e = c .before .before .before .before .pre in difference-fits (entry-half e 0) (entry-half e 1)
 
-part-two-end-2 : tie.Need-part-two-end-2
-part-two-end-2 c = search needs
+add-t : tie.Need-add-t
+add-t c = let e = c .before .before .before .before .pre in sum-fits (entry-half e 2) (entry-half e 3)
 
-two-requires-2 : tie.Need-two-requires-2
-two-requires-2 c κs = second-lent sums refl refl (c .before .before .before .before .pre) refl (c .before .before .two .ensures) refl
+sub-e : tie.Need-sub-e
+sub-e c = let e = c .before .before .before .before .pre in difference-fits (entry-half e 2) (entry-half e 3)
 
-butterfly-requires : tie.Need-butterfly-requires
-butterfly-requires c κs = halves-ready sums refl refl (c .before .before .before .before .before .before .before .pre) refl (c .before .before .before .before .before .two .ensures) refl (c .before .before .two2 .ensures)
+add-a : tie.Need-add-a
+add-a c = let e = c .before .before .before .before .pre in sum-fits (plus-half e 0 1) (plus-half e 2 3)
+
+slice-set-from-a : tie.Need-slice-set-from-a
+slice-set-from-a c = search needs
+
+add-a-2 : tie.Need-add-a-2
+add-a-2 c = let e = c .before .before .before .before .pre in sum-fits (minus-half e 0 1) (minus-half e 2 3)
+
+slice-set-from-a-2 : tie.Need-slice-set-from-a-2
+slice-set-from-a-2 c = search needs
+
+sub-a : tie.Need-sub-a
+sub-a c = let e = c .before .before .before .before .pre in difference-fits (plus-half e 0 1) (plus-half e 2 3)
+
+slice-set-from-a-3 : tie.Need-slice-set-from-a-3
+slice-set-from-a-3 c = search needs
+
+sub-a-2 : tie.Need-sub-a-2
+sub-a-2 c = let e = c .before .before .before .before .pre in difference-fits (minus-half e 0 1) (minus-half e 2 3)
+
+slice-set-from-a-4 : tie.Need-slice-set-from-a-4
+slice-set-from-a-4 c = search needs
 
 same-length : tie.Need-same-length
 same-length c = search needs
 
 returns : tie.Need-returns
-returns c = halves-joined sums refl refl (c .before .before .before .before .before .before .before .before .before .pre) refl (c .before .before .before .before .before .before .before .two .ensures) refl (c .before .before .before .before .two2 .ensures) (c .before .butterfly .ensures)
+returns c = let e = c .before .before .before .before .pre in four-summed e
 
 pub four-spec : {M : Type 1} → statement M
 four-spec =
     tie.close
     (tie.spec
-    sub-two
-    part-two-start
-    part-two-end
-    two-requires
-    sub-two-2
-    part-two-start-2
-    part-two-end-2
-    two-requires-2
-    butterfly-requires
+    slice-copy-out-x0
+    slice-copy-out-x1
+    slice-copy-out-x2
+    slice-copy-out-x3
+    add-s
+    sub-d
+    add-t
+    sub-e
+    add-a
+    slice-set-from-a
+    add-a-2
+    slice-set-from-a-2
+    sub-a
+    slice-set-from-a-3
+    sub-a-2
+    slice-set-from-a-4
     same-length
     returns)

@@ -96,7 +96,7 @@ write-affine-requires c κs =
     let b = best-is (e .before .before) in
     let length-is = best-length b in
     let small = pow-mono {j = 10} (b .small) in
-    (rw (constant-read (c .before)) (is-bit _ (constant-lt (c .before))), omega (arith, below e), omega arith)
+    (rw (constant-read (c .before)) (is-bit _ (constant-lt (c .before))), omega (arith, below e))
 
 same-length-2 : tie.Need-same-length-2
 same-length-2 c = search needs
