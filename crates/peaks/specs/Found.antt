@@ -1,0 +1,1 @@
+-- What the search finds is the peak. Assumes nothing.

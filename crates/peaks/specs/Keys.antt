@@ -1,0 +1,1 @@
+-- How often and where the greatest size occurs, in one sum. Assumes nothing.

@@ -1,0 +1,1 @@
+-- Two words packed in one are transformed together. Assumes nothing.

@@ -1,0 +1,1 @@
+-- The greatest of the sums and differences of pairs, from the sizes of the pairs. Assumes nothing.
