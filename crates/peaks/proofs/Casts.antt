@@ -1,19 +1,21 @@
 -- Packed pairs, bits and sizes in 32 signed bits, as the code computes with them. Assumes nothing.
 use Prim.Native.Nat.{ℕ, suc, _+_, _/_, _%_, _^_, _≤_, _<_}
 use mathlib.Core.Path.{_≡_, refl, sym, ap, ap₂, _∙_}
-use mathlib.Core.Bool.{Bool, cond}
+use mathlib.Core.Bool.{true, false}
+use mathlib.Core.List.{List}
 use native.Mathlib.Omega.{arith}
-use borrow.Author.Tests.{le-ltb}
+use borrow.Author.Tests.{ltb-true, ltb-false, le-ltb}
 use lib.Dec.{T, ltb}
 use lib.IntN.{ℤ, pos, negsuc, natAbs, _+ℤ_, _-ℤ_, _*ℤ_}
 use lib.Signed.{ltZ, nonNeg}
 use mir.Syntax.{w32}
-use mir.Val.{Fits, SFits, toZ, ofZ}
+use mir.Val.{Fits, SFits, toZ}
 use mir.Facts.{toZ-ofZ, toZ-pos}
-use Rattle.area.specs.Area.{IsBit, zero-bit, one-bit}
-use Rattle.area.specs.Numbers.{stored, stored-eq, fits-32, natAbs-add}
+use Rattle.words.specs.Written.{Written}
+use Rattle.area.specs.Area.{at, IsBit, zero-bit, one-bit}
+use Rattle.area.specs.Numbers.{Half, stored, stored-eq, fits-32, natAbs-add}
 use Rattle.hadamard.specs.Correlation.{sign}
-use Rattle.peaks.specs.Peaks.{packed, raised, firstOf, secondOf}
+use Rattle.peaks.specs.Peaks.{packed, raised, firstOf, secondOf, Packed}
 
 -- ---- numbers that are not negative
 
@@ -26,8 +28,15 @@ pub size-held : (n : ℕ) → n < 2 ^ 31 → toZ w32 n ≡ pos n
 size-held n h = toZ-pos w32 h
 
 -- a test of two sizes
-pub size-test : (a : ℕ) (z : ℤ) (t : Bool) → a < 2 ^ 31 → natAbs z < 2 ^ 31 → z ≡ pos (natAbs z) → ltZ (toZ w32 a) (stored z) ≡ t → ltb a (natAbs z) ≡ t
-size-test a z t ha hz w e = sym (ap₂ ltZ (size-held a ha) (stored-eq z hz ∙ w)) ∙ e
+module _ (a : ℕ) (z : ℤ) (ha : a ≤ 1024) (hz : natAbs z ≤ 1024) (whole : z ≡ pos (natAbs z)) where
+  sizes-held : ltZ (toZ w32 a) (stored z) ≡ ltb a (natAbs z)
+  sizes-held = ap₂ ltZ (size-held a (omega arith)) (stored-eq z (omega arith) ∙ whole)
+
+  pub size-below : ltZ (toZ w32 a) (stored z) ≡ true → a < natAbs z
+  size-below e = ltb-true a (natAbs z) (sym sizes-held ∙ e)
+
+  pub size-above : ltZ (toZ w32 a) (stored z) ≡ false → natAbs z ≤ a
+  size-above e = ltb-false a (natAbs z) (sym sizes-held ∙ e)
 
 -- ---- the pair of signs of two bits: 2049 - 2 * (x + 2048 * y)
 
@@ -56,7 +65,9 @@ signs-fit zero-bit one-bit = record { sfits = omega arith }
 signs-fit one-bit zero-bit = record { sfits = omega arith }
 signs-fit one-bit one-bit = record { sfits = omega arith }
 
-pub signs-are : {x y : ℤ} → IsBit x → IsBit y → stored (pos 2049 -ℤ stored (pos 2 *ℤ stored (coded x y))) ≡ packed (sign (natAbs x)) (sign (natAbs y))
+pub signs-are :
+    {x y : ℤ} → IsBit x → IsBit y
+    → stored (pos 2049 -ℤ stored (pos 2 *ℤ stored (coded x y))) ≡ packed (sign (natAbs x)) (sign (natAbs y))
 signs-are zero-bit zero-bit = refl
 signs-are zero-bit one-bit = refl
 signs-are one-bit zero-bit = refl
@@ -110,3 +121,27 @@ module _ (z : ℤ) (h : natAbs z < 2097152) where
   pub second-is : stored (toZ w32 (natAbs (stored (stored z +ℤ pos 2098176)) / 2048) -ℤ pos 1024) ≡ secondOf z
   unfolding secondOf
   second-is = lowered-is _ second-small ∙ rw raised-is
+
+-- ---- the size of a pair
+
+-- the pair at i, of which those before it were read already
+pub pair-read :
+    {h i : ℕ} {f : ℕ → ℤ} {xs ys : List ℤ} → Packed h xs → Written (pos 0) h i f xs ys → i < h → stored (at ys i) ≡ at xs i
+pair-read {i = i} {ys = ys} p w l = let e = w .below i l in stored-eq (at ys i) (rw e (omega (arith, p .small i l))) ∙ e
+
+-- one of its numbers, which is y
+pub number-read : {x y : ℤ} → x ≡ y → natAbs y ≤ 512 → stored x ≡ y
+number-read {x} e h = stored-eq x (rw e (omega arith)) ∙ e
+
+pub number-small : {x y : ℤ} → x ≡ y → natAbs y ≤ 512 → natAbs x < 2 ^ 31
+number-small e h = rw e (omega arith)
+
+-- r is the absolute value of y
+pub record IsSize (r y : ℤ) : Type 0 where
+  pub is : r ≡ pos (natAbs y)
+  pub half : Half r
+
+pub size-read : {r x y : ℤ} → r ≡ pos (natAbs x) → x ≡ y → natAbs y ≤ 512 → IsSize r y
+size-read {r} {x} {y} e q h =
+    let is : r ≡ pos (natAbs y) = e ∙ ap (λ (z : ℤ). pos (natAbs z)) q in
+    record { is = is; half = record { half = omega (arith, ap natAbs is) } }

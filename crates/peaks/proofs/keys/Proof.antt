@@ -1,49 +1,70 @@
+-- `peaks::keys` meets its contract. Assumes nothing.
+use Prim.Native.Nat.{ℕ, _+_, _-_, _≤_}
+use mathlib.Core.Path.{_≡_, refl, sym, ap, _∙_}
+use mathlib.Core.Logic.{⊎-elim}
+use native.Mathlib.Omega.{arith}
+use lib.ListN.{length}
+use mir.Syntax.{w32}
+use mir.Val.{ofZ}
+use Rattle.area.specs.Area.{at}
+use Rattle.peaks.specs.Peaks.{entrySizes, keysBelow}
+use Rattle.peaks.specs.Keys.{keys-none, keys-hit, keys-miss, keys-most}
 use Rattle.peaks.proofs.keys.Statement.{statement}
 use Rattle.peaks.proofs.keys.Tie as tie
-use Rattle.peaks.proofs.keys.Reads as reads
-use Rattle.peaks.proofs.keys.Lts as lts
 
 abbrev Inv-loop : tie.InvT-loop
-Inv-loop sizes g sum₀ key₀ i₀ sum key i = ?
+Inv-loop sizes g sum₀ key₀ i₀ sum key i = (i ≤ length sizes) × (key ≡ 65536 + i) × (sum ≡ keysBelow i (entrySizes sizes) g)
 
 abbrev μ-loop : tie.MeasureT-loop
-μ-loop sizes g sum₀ key₀ i₀ sum key i = ?
+μ-loop sizes g sum₀ key₀ i₀ sum key i = length sizes - i
 
--- src/lib.rt:98:5
 loop-holds : tie.Need-loop-holds Inv-loop μ-loop
-loop-holds c = ?
+loop-holds c = (omega arith, refl, sym (keys-none _ _))
 
--- src/lib.rt:99:12
 mul-if1 : tie.Need-mul-if1 Inv-loop μ-loop
-mul-if1 c = ?
+mul-if1 c = omega arith
 
--- src/lib.rt:99:12
 shared-slice-copy-out-if1 : tie.Need-shared-slice-copy-out-if1 Inv-loop μ-loop
-shared-slice-copy-out-if1 c = ?
+shared-slice-copy-out-if1 c = omega arith
 
--- src/lib.rt:100:13
 add-sum : tie.Need-add-sum Inv-loop μ-loop
-add-sum c = ?
+add-sum c =
+    let s = c .before .before .before .before in
+    let l = c .before .before .before .loop in
+    let few : l .i ≤ 512 = omega (arith, s .pre .0 .few) in
+    omega (arith, keys-most (entrySizes (s .args .sizes .now)) (ofZ w32 (s .args .g)) (l .i) few)
 
--- src/lib.rt:102:9
 add-key : tie.Need-add-key Inv-loop μ-loop
-add-key c = ?
+add-key c = let few = c .before .before .before .before .pre .0 .few in omega arith
 
--- src/lib.rt:103:9
 add-i : tie.Need-add-i Inv-loop μ-loop
-add-i c = ?
+add-i c = omega arith
 
--- src/lib.rt:98:5
 loop-less : tie.Need-loop-less Inv-loop μ-loop
-loop-less c = ?
+loop-less c = omega arith
 
--- src/lib.rt:98:5
 loop-again : tie.Need-loop-again Inv-loop μ-loop
-loop-again c = ?
+loop-again c =
+    let s = c .before .before .before .before in
+    let l = c .before .before .before .loop in
+    let f = entrySizes (s .args .sizes .now) in
+    let g = ofZ w32 (s .args .g) in
+    let x : ofZ w32 (at (s .args .sizes .now) (l .i)) ≡ f (l .i) = ap (ofZ w32) (s .pre .0 .whole (l .i) (omega arith)) in (
+      omega arith,
+      omega arith,
+      ⊎-elim
+          (λ w. omega (arith, l .inv .2, keys-hit f g (l .i) (sym x ∙ w .0 .taken)))
+          (λ w. omega (arith, l .inv .2, keys-miss f g (l .i) (λ e. w .0 .left (x ∙ e))))
+          (c .if1 .came),
+    )
 
--- src/lib.rt:90:1
 returns : tie.Need-returns Inv-loop μ-loop
-returns c = ?
+returns c =
+    let s = c .before .before in
+    let l = c .before .loop in
+    let f = entrySizes (s .args .sizes .now) in
+    let e : l .i ≡ length (s .args .sizes .now) = omega arith in
+    l .inv .2 ∙ ap (λ (n : ℕ). keysBelow n f (ofZ w32 (s .args .g))) e ∙ ap (keysBelow _ f) (ap (ofZ w32) (s .pre .1))
 
 pub keys-spec : {M : Type 1} → statement M
 keys-spec =
