@@ -54,13 +54,13 @@ signed-suc n z = elim (decLt (n % 2) 1) [
 ]
 
 module _ (m : ℕ) (v : ℕ → ℤ) (u : ℕ) (h : u < 2 ^ m) where
-  correlation-low : correlation (suc m) v u ≡ correlation m v u +ℤ correlation m (λ p. v (2 ^ m + p)) u
+  pub correlation-low : correlation (suc m) v u ≡ correlation m v u +ℤ correlation m (λ p. v (2 ^ m + p)) u
   unfolding correlation
   correlation-low =
       sumℤ-halves m (λ p. signed (ones (bitAnd u p) % 2) (v p))
       ∙ ap (λ (z : ℤ). correlation m v u +ℤ z) (sumℤ-ext (2 ^ m) _ _ (λ p l. ap (λ (i : ℕ). signed (ones i % 2) (v (2 ^ m + p))) (and-low-top m u p h l)))
 
-  correlation-top : correlation (suc m) v (2 ^ m + u) ≡ correlation m v u -ℤ correlation m (λ p. v (2 ^ m + p)) u
+  pub correlation-top : correlation (suc m) v (2 ^ m + u) ≡ correlation m v u -ℤ correlation m (λ p. v (2 ^ m + p)) u
   unfolding correlation
   correlation-top =
       sumℤ-halves m (λ p. signed (ones (bitAnd (2 ^ m + u) p) % 2) (v p))

@@ -1,10 +1,10 @@
 -- Packed pairs, bits and sizes in 32 signed bits, as the code computes with them. Assumes nothing.
-use Prim.Native.Nat.{ℕ, suc, _+_, _/_, _%_, _^_, _≤_, _<_}
+use Prim.Native.Nat.{ℕ, _+_, _/_, _%_, _^_, _≤_, _<_}
 use mathlib.Core.Path.{_≡_, refl, sym, ap, ap₂, _∙_}
 use mathlib.Core.Bool.{true, false}
 use mathlib.Core.List.{List}
 use native.Mathlib.Omega.{arith}
-use borrow.Author.Tests.{ltb-true, ltb-false, le-ltb}
+use borrow.Author.Tests.{ltb-true, ltb-false}
 use lib.Dec.{T, ltb}
 use lib.IntN.{ℤ, pos, negsuc, natAbs, _+ℤ_, _-ℤ_, _*ℤ_}
 use lib.Signed.{ltZ, nonNeg}
@@ -16,6 +16,7 @@ use Rattle.area.specs.Area.{at, IsBit, zero-bit, one-bit}
 use Rattle.area.specs.Numbers.{Half, stored, stored-eq, fits-32, natAbs-add}
 use Rattle.hadamard.specs.Correlation.{sign}
 use Rattle.peaks.specs.Peaks.{packed, raised, firstOf, secondOf, Packed}
+use Rattle.peaks.specs.Packing.{lifted}
 
 -- ---- numbers that are not negative
 
@@ -75,11 +76,6 @@ signs-are one-bit one-bit = refl
 
 -- ---- the numbers of a packed pair
 
--- raised it is not negative
-raised-pos : (z : ℤ) → natAbs z < 2097152 → z +ℤ pos 2098176 ≡ pos (raised z)
-raised-pos (pos a) h = refl
-raised-pos (negsuc a) h = rw (le-ltb 2098176 (suc a) (omega arith))
-
 -- a digit d, less 1024
 module _ (d : ℕ) (h : d < 2 ^ 30) where
   lowered-small : natAbs (pos d -ℤ pos 1024) < 2 ^ 31
@@ -99,7 +95,7 @@ module _ (z : ℤ) (h : natAbs z < 2097152) where
   raised-fits = rw (stored-eq z (omega arith)) (fits-32 _ (omega (arith, raised-small)))
 
   raised-stored : stored (stored z +ℤ pos 2098176) ≡ pos (raised z)
-  raised-stored = toZ-ofZ raised-fits ∙ rw (stored-eq z (omega arith)) (raised-pos z h)
+  raised-stored = toZ-ofZ raised-fits ∙ rw (stored-eq z (omega arith)) (lifted 2098176 z (omega arith))
 
   pub raised-casts : T (nonNeg (stored (stored z +ℤ pos 2098176))) × Fits w32 (natAbs (stored (stored z +ℤ pos 2098176)))
   raised-casts = rw raised-stored (tt, record { fits = omega (arith, raised-small) })
