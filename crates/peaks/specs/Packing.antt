@@ -4,12 +4,14 @@ use mathlib.Core.Path.{_≡_, refl, sym, ap, ap₂, _∙_}
 use native.Mathlib.Omega.{arith}
 use lib.Bits.{bitAnd}
 use lib.Count.{ones}
-use lib.IntN.{ℤ, pos, negsuc, negℤ, sucℤ, predℤ, natAbs, _+ℤ_, _-ℤ_, _*ℤ_, +ℤ-idl, +ℤ-assoc, +ℤ-comm, +ℤ-negℤ-cancel, sucℤ-+ℤ, predℤ-+ℤ, sucℤ-*ℤ, predℤ-*ℤ, zero-*ℤ, negℤ-+ℤ, negℤ-negℤ, pos-*ℤ-pos, negsuc-*ℤ-pos}
+use lib.IntN.{ℤ, pos, negsuc, negℤ, sucℤ, predℤ, natAbs, _+ℤ_, _-ℤ_, _*ℤ_}
+use lib.IntN.{+ℤ-idl, +ℤ-assoc, +ℤ-comm, +ℤ-negℤ-cancel, sucℤ-+ℤ, predℤ-+ℤ, negℤ-+ℤ, negℤ-negℤ}
+use lib.IntN.{sucℤ-*ℤ, predℤ-*ℤ, zero-*ℤ, pos-*ℤ-pos, negsuc-*ℤ-pos}
 use borrow.Author.Tests.{le-ltb}
 use Rattle.words.specs.Sum.{sumBelowℤ, total}
 use Rattle.words.specs.SumLaws.{sumℤ-ext}
 use Rattle.area.specs.Numbers.{natAbs-add, natAbs-neg}
-use Rattle.hadamard.specs.Correlation.{correlation, signed}
+use Rattle.hadamard.specs.Correlation.{correlation, sign, signed}
 use Rattle.hadamard.specs.CorrelationLaws.{natAbs-signed, swap4}
 use Rattle.peaks.specs.Peaks.{packed, raised, firstOf, secondOf}
 
@@ -77,6 +79,9 @@ correlation-packed m x y u =
 
 -- ---- the numbers of a pair
 
+pub packed-size : (x y : ℤ) → natAbs (packed x y) ≤ natAbs x + natAbs y * 2048
+packed-size x y = omega (arith, natAbs-add x (scaled 2048 y), scaled-size 2048 y)
+
 -- raised by k a number of size at most k is not negative
 pub lifted : (k : ℕ) (x : ℤ) → natAbs x ≤ k → x +ℤ pos k ≡ pos (natAbs (x +ℤ pos k))
 lifted k (pos a) h = refl
@@ -87,7 +92,7 @@ lifted-back x h = ap (λ (z : ℤ). z -ℤ pos 1024) (sym (lifted 1024 x (omega 
 
 module _ (x y : ℤ) (hx : natAbs x ≤ 512) (hy : natAbs y ≤ 512) where
   pub packed-small : natAbs (packed x y) < 2097152
-  packed-small = omega (arith, natAbs-add x (scaled 2048 y), scaled-size 2048 y)
+  packed-small = omega (arith, packed-size x y)
 
   -- the two digits
   raised-digits : raised (packed x y) ≡ natAbs (x +ℤ pos 1024) + natAbs (y +ℤ pos 1024) * 2048
@@ -106,6 +111,10 @@ module _ (x y : ℤ) (hx : natAbs x ≤ 512) (hy : natAbs y ≤ 512) where
       ap (λ (d : ℕ). pos d -ℤ pos 1024) digit ∙ lifted-back y hy
 
 -- ---- the size of a correlation
+
+pub sign-size : (b : ℕ) → natAbs (sign b) ≡ 1
+sign-size zero = refl
+sign-size (suc b) = refl
 
 sum-size : (n : ℕ) (f : ℕ → ℤ) → ((p : ℕ) → p < n → natAbs (f p) ≤ 1) → natAbs (sumBelowℤ n f) ≤ n
 unfolding total

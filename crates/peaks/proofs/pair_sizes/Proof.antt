@@ -58,14 +58,16 @@ first-size c = size-read (c .absolute .ensures) (first (c .before)) (first-small
 second-of-requires : tie.Need-second-of-requires Inv-loop μ-loop
 second-of-requires c κs = let a = c .before .before .before in rw (pair a) (pair-small a)
 
-second : (c : tie.After-second-of Inv-loop μ-loop) → stored (c .second-of .result) ≡ secondOf (pairAt (c .before .before .before .before))
+second :
+    (c : tie.After-second-of Inv-loop μ-loop) → stored (c .second-of .result) ≡ secondOf (pairAt (c .before .before .before .before))
 second c = let a = c .before .before .before .before in number-read (c .second-of .ensures ∙ ap secondOf (pair a)) (second-small a)
 
 absolute-requires-2 : tie.Need-absolute-requires-2 Inv-loop μ-loop
 absolute-requires-2 c κs = number-small (second c) (second-small (c .before .before .before .before))
 
 second-size :
-    (c : tie.After-absolute2 Inv-loop μ-loop) → IsSize (c .absolute2 .result) (secondOf (pairAt (c .before .before .before .before .before)))
+    (c : tie.After-absolute2 Inv-loop μ-loop)
+    → IsSize (c .absolute2 .result) (secondOf (pairAt (c .before .before .before .before .before)))
 second-size c = size-read (c .absolute2 .ensures) (second (c .before)) (second-small (c .before .before .before .before .before))
 
 add-part : tie.Need-add-part Inv-loop μ-loop
