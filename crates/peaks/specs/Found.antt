@@ -1,5 +1,5 @@
 -- What the search finds is the peak. Assumes nothing.
-use Prim.Native.Nat.{ℕ, _+_, _%_, _≤_, _<_, max}
+use Prim.Native.Nat.{ℕ, _+_, _-_, _%_, _≤_, _<_, max}
 use mathlib.Core.Path.{_≡_, sym, ap, ap₂, _∙_, subst}
 use mathlib.Core.Bool.{true, false, false≢true}
 use mathlib.Core.List.{List}
@@ -93,13 +93,14 @@ pub record Held (h : ℕ) (s : ℕ → ℕ) (zs : List ℤ) : Type 0 where
   pub long : length zs ≡ h
   pub each : (i : ℕ) → i < h → at zs i ≡ pos (s i)
 
--- as the pairs' sizes are left after them
+-- the pairs' sizes, written after them, as the code takes `[h..h + h]`
 pub sizes-held :
     {h : ℕ} {xs ys : List ℤ} → Packed h xs → Written (pos 0) h h (λ i. pos (sizeOf (at xs i))) xs ys
-    → Held h (λ i. sizeOf (at xs i)) (take h (drop h ys))
+    → Held h (λ i. sizeOf (at xs i)) (take ((h + h) - h) (drop h ys))
 sizes-held {h} {ys = ys} k w =
     let room : h + h ≤ length ys = omega (arith, w .long, k .size) in
-    record { long = part-length (pos 0) h h ys room; each = λ i l. part-at (pos 0) h h ys room i l ∙ w .within i l }
+    let all : (h + h) - h ≡ h = omega arith in
+    rw all (record { long = part-length (pos 0) h h ys room; each = λ i l. part-at (pos 0) h h ys room i l ∙ w .within i l })
 
 module _ {h : ℕ} {xs zs : List ℤ} (k : Packed h xs) (s : Held h (λ i. sizeOf (at xs i)) zs) where
   pub held-sizes : Sizes zs

@@ -1,4 +1,4 @@
--- The sum and the difference of two numbers: which is the greater, and by how much the size tells. Assumes nothing.
+-- The sum and the difference of two numbers: which of them has the greater size. Assumes nothing.
 use Prim.Native.Nat.{ℕ, zero, suc, _+_, _-_, _≤_, _<_}
 use mathlib.Core.Path.{_≡_, refl, ap}
 use mathlib.Core.Bool.{Bool, true, false, cond}
@@ -11,7 +11,7 @@ use Rattle.area.specs.Numbers.{natAbs-add, natAbs-neg}
 use Rattle.hadamard.specs.Correlation.{constantOf}
 use Rattle.peaks.specs.Peaks.{alike, pairSize}
 
--- the greater and the lesser of the sum and the difference
+-- the one of greater size, and the other
 abbrev pub greaterOf : ℤ → ℤ → ℤ
 greaterOf x y = cond (alike x y) (x +ℤ y) (x -ℤ y)
 

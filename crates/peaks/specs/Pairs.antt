@@ -100,7 +100,10 @@ module _ (h : ℕ) (x y : ℕ → ℤ) where
 
   -- one pair has it, and no number of the pair is 0
   pub pair-alone : (j : ℕ) → Alone h (sizes x y) j → natAbs (x j) ≢ 0 → natAbs (y j) ≢ 0 → Alone (h + h) joinedSizes (greaterPlace j)
-  pair-alone j a nx ny = record { below = place-below j l (alike (x j) (y j)); others = λ v k ne. by-place (λ (v : ℕ). v ≢ u → joinedSizes v < joinedSizes u) at-greater at-lesser v k ne }
+  pair-alone j a nx ny = record {
+    below = place-below j l (alike (x j) (y j));
+    others = by-place (λ (v : ℕ). v ≢ u → joinedSizes v < joinedSizes u) at-greater at-lesser;
+  }
     where
       u : ℕ
       u = greaterPlace j
@@ -118,7 +121,9 @@ module _ (h : ℕ) (x y : ℕ → ℤ) where
       ]
 
   -- a pair that has it has a 0: both its places have it
-  pub pair-even : (j : ℕ) → j < h → ((i : ℕ) → i < h → sizes x y i ≤ sizes x y j) → (natAbs (x j) ≡ 0) ⊎ (natAbs (y j) ≡ 0) → Shared (h + h) joinedSizes
+  pub pair-even :
+      (j : ℕ) → j < h → ((i : ℕ) → i < h → sizes x y i ≤ sizes x y j) → (natAbs (x j) ≡ 0) ⊎ (natAbs (y j) ≡ 0)
+      → Shared (h + h) joinedSizes
   pair-even j l most z = record {
     first = greaterPlace j;
     second = lesserPlace j;
