@@ -2,7 +2,7 @@
 use Prim.Native.Nat.{ℕ, zero, suc, _+_, _*_, _≤_, _<_}
 use mathlib.Core.Path.{_≡_, refl, sym, ap, _∙_}
 use mathlib.Core.Bool.{cond}
-use mathlib.Core.Logic.{_≢_, _⊎_, inl, inr, ⊎-elim}
+use mathlib.Core.Logic.{_≢_, _⊎_, inl, inr}
 use native.Mathlib.Decide.{ℕ-discrete}
 use native.Mathlib.Nat.{not-suc-le-zero, le-refl}
 use native.Mathlib.Numerals.{add-one}
@@ -10,7 +10,7 @@ use native.Mathlib.Omega.{arith}
 use lib.Dec.{eqb}
 use borrow.Author.Tests.{eq-eqb, ne-eqb}
 use Rattle.words.specs.Sum.{greatestBelow, total}
-use Rattle.words.specs.SumLaws.{le-or-lt, sum-most, sum-prefix, sum-zero}
+use Rattle.words.specs.SumLaws.{le-or-lt, sum-ext, sum-most, sum-prefix, sum-zero}
 use Rattle.hadamard.specs.Peak.{Alone, Shared, alone-greatest, shared-greatest}
 use Rattle.peaks.specs.Peaks.{keysBelow}
 
@@ -71,10 +71,19 @@ module _ {n : ℕ} {f : ℕ → ℕ} where
   keys-alone {u} a = rw (alone-greatest a) (one-key f (f u) n u (a .below) refl (λ v l k e. omega (arith, a .others v l k)))
 
   pub keys-shared : Shared n f → 131072 ≤ keysBelow n f (greatestBelow n f)
-  keys-shared s = rw (shared-greatest s) (⊎-elim
-    (λ (l : s .first ≤ s .second). two-keys f x n (s .first) (s .second) (omega (arith, s .apart)) (s .second-below) refl (sym (s .equal)))
-    (λ (l : s .second < s .first). two-keys f x n (s .second) (s .first) l (s .first-below) (sym (s .equal)) refl)
-    (le-or-lt (s .first) (s .second)))
+  keys-shared s = rw (shared-greatest s) (go (le-or-lt u v))
     where
-      x : ℕ
-      x = f (s .first)
+      u : ℕ
+      u = s .first
+
+      v : ℕ
+      v = s .second
+
+      go : (u ≤ v) ⊎ (v < u) → 131072 ≤ keysBelow n f (f u)
+      go (inl l) = two-keys f (f u) n u v (omega (arith, s .apart)) (s .second-below) refl (sym (s .equal))
+      go (inr l) = two-keys f (f u) n v u l (s .first-below) (sym (s .equal)) refl
+
+-- functions that agree below n have the same keys
+pub keys-ext : (n : ℕ) (f g : ℕ → ℕ) (x : ℕ) → ((i : ℕ) → i < n → f i ≡ g i) → keysBelow n f x ≡ keysBelow n g x
+unfolding keysBelow
+keys-ext n f g x h = sum-ext n (keyAt f x) (keyAt g x) (λ i l. ap (λ (y : ℕ). cond (eqb y x) (65536 + i) 0) (h i l))

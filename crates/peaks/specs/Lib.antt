@@ -1,5 +1,6 @@
 -- Definitions: Peaks. The rest are laws.
 pub mod Peaks
+pub mod OnePair
 pub mod Pairs
 pub mod Keys
 pub mod Found
