@@ -1,0 +1,143 @@
+-- Packed pairs, bits and sizes in 32 signed bits, as the code computes with them. Assumes nothing.
+use Prim.Native.Nat.{ℕ, _+_, _/_, _%_, _^_, _≤_, _<_}
+use mathlib.Core.Path.{_≡_, refl, sym, ap, ap₂, _∙_}
+use mathlib.Core.Bool.{true, false}
+use mathlib.Core.List.{List}
+use native.Mathlib.Omega.{arith}
+use borrow.Author.Tests.{ltb-true, ltb-false}
+use lib.Dec.{T, ltb}
+use lib.IntN.{ℤ, pos, negsuc, natAbs, _+ℤ_, _-ℤ_, _*ℤ_}
+use lib.Signed.{ltZ, nonNeg}
+use mir.Syntax.{w32}
+use mir.Val.{Fits, SFits, toZ}
+use mir.Facts.{toZ-ofZ, toZ-pos}
+use Rattle.words.specs.Written.{Written}
+use Rattle.area.specs.Area.{at, IsBit, zero-bit, one-bit}
+use Rattle.area.specs.Numbers.{Half, stored, stored-eq, fits-32, natAbs-add}
+use Rattle.hadamard.specs.Correlation.{sign}
+use Rattle.peaks.specs.Peaks.{packed, raised, firstOf, secondOf, Packed}
+use Rattle.peaks.specs.Packing.{lifted}
+
+-- ---- numbers that are not negative
+
+pub not-negative : (z : ℤ) → T (nonNeg z) → z ≡ pos (natAbs z)
+not-negative (pos n) t = refl
+not-negative (negsuc n) t = absurd t
+
+-- a size as the code holds it
+pub size-held : (n : ℕ) → n < 2 ^ 31 → toZ w32 n ≡ pos n
+size-held n h = toZ-pos w32 h
+
+-- a test of two sizes
+module _ (a : ℕ) (z : ℤ) (ha : a ≤ 1024) (hz : natAbs z ≤ 1024) (whole : z ≡ pos (natAbs z)) where
+  sizes-held : ltZ (toZ w32 a) (stored z) ≡ ltb a (natAbs z)
+  sizes-held = ap₂ ltZ (size-held a (omega arith)) (stored-eq z (omega arith) ∙ whole)
+
+  pub size-below : ltZ (toZ w32 a) (stored z) ≡ true → a < natAbs z
+  size-below e = ltb-true a (natAbs z) (sym sizes-held ∙ e)
+
+  pub size-above : ltZ (toZ w32 a) (stored z) ≡ false → natAbs z ≤ a
+  size-above e = ltb-false a (natAbs z) (sym sizes-held ∙ e)
+
+-- ---- the pair of signs of two bits: 2049 - 2 * (x + 2048 * y)
+
+abbrev coded : ℤ → ℤ → ℤ
+coded x y = stored x +ℤ stored (pos 2048 *ℤ stored y)
+
+pub second-fits : {y : ℤ} → IsBit y → SFits w32 (pos 2048 *ℤ stored y)
+second-fits zero-bit = record { sfits = omega arith }
+second-fits one-bit = record { sfits = omega arith }
+
+pub coded-fits : {x y : ℤ} → IsBit x → IsBit y → SFits w32 (coded x y)
+coded-fits zero-bit zero-bit = record { sfits = omega arith }
+coded-fits zero-bit one-bit = record { sfits = omega arith }
+coded-fits one-bit zero-bit = record { sfits = omega arith }
+coded-fits one-bit one-bit = record { sfits = omega arith }
+
+pub double-fits : {x y : ℤ} → IsBit x → IsBit y → SFits w32 (pos 2 *ℤ stored (coded x y))
+double-fits zero-bit zero-bit = record { sfits = omega arith }
+double-fits zero-bit one-bit = record { sfits = omega arith }
+double-fits one-bit zero-bit = record { sfits = omega arith }
+double-fits one-bit one-bit = record { sfits = omega arith }
+
+pub signs-fit : {x y : ℤ} → IsBit x → IsBit y → SFits w32 (pos 2049 -ℤ stored (pos 2 *ℤ stored (coded x y)))
+signs-fit zero-bit zero-bit = record { sfits = omega arith }
+signs-fit zero-bit one-bit = record { sfits = omega arith }
+signs-fit one-bit zero-bit = record { sfits = omega arith }
+signs-fit one-bit one-bit = record { sfits = omega arith }
+
+pub signs-are :
+    {x y : ℤ} → IsBit x → IsBit y
+    → stored (pos 2049 -ℤ stored (pos 2 *ℤ stored (coded x y))) ≡ packed (sign (natAbs x)) (sign (natAbs y))
+signs-are zero-bit zero-bit = refl
+signs-are zero-bit one-bit = refl
+signs-are one-bit zero-bit = refl
+signs-are one-bit one-bit = refl
+
+-- ---- the numbers of a packed pair
+
+-- a digit d, less 1024
+module _ (d : ℕ) (h : d < 2 ^ 30) where
+  lowered-small : natAbs (pos d -ℤ pos 1024) < 2 ^ 31
+  lowered-small = omega (arith, natAbs-add (pos d) (negsuc 1023))
+
+  pub lowered-fits : SFits w32 (toZ w32 d -ℤ pos 1024)
+  lowered-fits = rw (size-held d (omega arith)) (fits-32 _ lowered-small)
+
+  pub lowered-is : stored (toZ w32 d -ℤ pos 1024) ≡ pos d -ℤ pos 1024
+  lowered-is = rw (size-held d (omega arith)) (stored-eq _ lowered-small)
+
+module _ (z : ℤ) (h : natAbs z < 2097152) where
+  raised-small : raised z < 2 ^ 30
+  raised-small = omega (arith, natAbs-add z (pos 2098176))
+
+  pub raised-fits : SFits w32 (stored z +ℤ pos 2098176)
+  raised-fits = rw (stored-eq z (omega arith)) (fits-32 _ (omega (arith, raised-small)))
+
+  raised-stored : stored (stored z +ℤ pos 2098176) ≡ pos (raised z)
+  raised-stored = toZ-ofZ raised-fits ∙ rw (stored-eq z (omega arith)) (lifted 2098176 z (omega arith))
+
+  pub raised-casts : T (nonNeg (stored (stored z +ℤ pos 2098176))) × Fits w32 (natAbs (stored (stored z +ℤ pos 2098176)))
+  raised-casts = rw raised-stored (tt, record { fits = omega (arith, raised-small) })
+
+  pub raised-is : natAbs (stored (stored z +ℤ pos 2098176)) ≡ raised z
+  raised-is = ap natAbs raised-stored
+
+  -- the digits are small
+  pub first-small : natAbs (stored (stored z +ℤ pos 2098176)) % 2048 < 2 ^ 30
+  first-small = omega arith
+
+  pub second-small : natAbs (stored (stored z +ℤ pos 2098176)) / 2048 < 2 ^ 30
+  second-small = rw raised-is (omega (arith, raised-small))
+
+  pub first-is : stored (toZ w32 (natAbs (stored (stored z +ℤ pos 2098176)) % 2048) -ℤ pos 1024) ≡ firstOf z
+  unfolding firstOf
+  first-is = lowered-is _ first-small ∙ rw raised-is
+
+  pub second-is : stored (toZ w32 (natAbs (stored (stored z +ℤ pos 2098176)) / 2048) -ℤ pos 1024) ≡ secondOf z
+  unfolding secondOf
+  second-is = lowered-is _ second-small ∙ rw raised-is
+
+-- ---- the size of a pair
+
+-- the pair at i, of which those before it were read already
+pub pair-read :
+    {h i : ℕ} {f : ℕ → ℤ} {xs ys : List ℤ} → Packed h xs → Written (pos 0) h i f xs ys → i < h → stored (at ys i) ≡ at xs i
+pair-read {i = i} {ys = ys} p w l = let e = w .below i l in stored-eq (at ys i) (rw e (omega (arith, p .small i l))) ∙ e
+
+-- one of its numbers, which is y
+pub number-read : {x y : ℤ} → x ≡ y → natAbs y ≤ 512 → stored x ≡ y
+number-read {x} e h = stored-eq x (rw e (omega arith)) ∙ e
+
+pub number-small : {x y : ℤ} → x ≡ y → natAbs y ≤ 512 → natAbs x < 2 ^ 31
+number-small e h = rw e (omega arith)
+
+-- r is the absolute value of y
+pub record IsSize (r y : ℤ) : Type 0 where
+  pub is : r ≡ pos (natAbs y)
+  pub half : Half r
+
+pub size-read : {r x y : ℤ} → r ≡ pos (natAbs x) → x ≡ y → natAbs y ≤ 512 → IsSize r y
+size-read {r} {x} {y} e q h =
+    let is : r ≡ pos (natAbs y) = e ∙ ap (λ (z : ℤ). pos (natAbs z)) q in
+    record { is = is; half = record { half = omega (arith, ap natAbs is) } }

@@ -1,0 +1,206 @@
+-- The sizes of the pairs, their greatest and its key lead to the peak.
+use Prim.Native.Nat.{ℕ, _+_, _-_, _%_, _^_, _<_}
+use mathlib.Core.Path.{_≡_, refl, sym, ap, _∙_, subst}
+use native.Mathlib.Omega.{arith}
+use lib.IntN.{ℤ, pos, natAbs}
+use lib.Signed.{mag}
+use lib.ListN.{take, drop}
+use mir.Facts.{toZ-ofZ}
+use borrow.Author.Needs.{needs}
+use Rattle.area.specs.Area.{at}
+use Rattle.area.specs.Numbers.{stored, stored-eq}
+use Rattle.peaks.specs.Peaks.{firstOf, secondOf, sizeOf, PeakAt}
+use Rattle.peaks.specs.declared.Peak.{Peak}
+use Rattle.peaks.specs.Found.{Held, held-sizes, held-told, sizes-held, Told, told-many, told-peak, told-place}
+use Rattle.peaks.proofs.search.Statement.{statement}
+use Rattle.peaks.proofs.search.Tie as tie
+use Rattle.peaks.proofs.search.Reads as reads
+use Rattle.peaks.proofs.search.Lts as lts
+use Rattle.peaks.proofs.first_of.Reads as first-of-reads
+use Rattle.peaks.proofs.greatest.Reads as greatest-reads
+use Rattle.peaks.proofs.keys.Reads as keys-reads
+use Rattle.peaks.proofs.pair_sizes.Reads as pair-sizes-reads
+use Rattle.peaks.proofs.peak_at.Reads as peak-at-reads
+use Rattle.peaks.proofs.second_of.Reads as second-of-reads
+
+-- ---- numbers as the code reads them
+
+as-it-is : {z : ℤ} → mag z < 2 ^ 31 → stored z ≡ z
+as-it-is l = toZ-ofZ (record { sfits = l })
+
+module _ {g : ℤ} {n : ℕ} (e : g ≡ pos n) (l : mag g < 2 ^ 31) where
+  size-read : stored g ≡ pos n
+  size-read = as-it-is l ∙ e
+
+  size-whole : stored g ≡ pos (natAbs (stored g))
+  size-whole = size-read ∙ ap (λ (z : ℤ). pos (natAbs z)) (sym size-read)
+
+  size-small : natAbs (stored g) < 2 ^ 31
+  size-small = omega (arith, ap natAbs size-read, ap mag e)
+
+peak-as :
+    {h j : ℕ} {g g′ x x′ y y′ : ℤ} {p : Peak} → g ≡ g′ → x ≡ x′ → y ≡ y′ → PeakAt h j g x y p → PeakAt h j g′ x′ y′ p
+peak-as eg ex ey k = rw (← eg, ← ex, ← ey) k
+
+-- ---- what the steps leave
+
+-- the sizes of the pairs
+sizes-at : (c : tie.After-pair-sizes) → let a = c .before .before .args in
+    Held (a .h) (λ i. sizeOf (at (a .part .now) i)) (take ((a .h + a .h) - a .h) (drop (a .h) (c .pair-sizes .last .1 .0)))
+sizes-at c = sizes-held (c .before .before .pre) (c .pair-sizes .ensures)
+
+-- the greatest and its key
+told : (c : tie.After-keys) → let g = c .before .before .before in let a = g .before .before .before .before .before .before .args in
+    Told (a .h) (λ i. firstOf (at (a .part .now) i)) (λ i. secondOf (at (a .part .now) i)) (g .greatest .result) (c .keys .result)
+told c =
+    let g = c .before .before .before in
+    let p = g .before .before .before .before in
+    held-told (p .before .before .pre) (sizes-at p) (g .greatest .ensures) (rw (as-it-is (g .greatest .ok)) at (c .keys .ensures))
+
+below : (c : tie.Else1) → let s = c .before .before .before .before .before .before .before .before .before .before in
+    c .before .keys .result % 65536 < s .args .h
+below c = told-place (told (c .before)) (c .if1 .left)
+
+-- the pair, which the sizes left as it was
+pair-read : (c : tie.Else1) →
+    let p = c .before .before .before .before .before .before .before .before in
+    let j = c .before .keys .result % 65536 in
+    stored (at (p .pair-sizes .last .1 .0) j) ≡ at (p .before .before .args .part .now) j
+pair-read c =
+    let p = c .before .before .before .before .before .before .before .before in
+    let s = p .before .before in
+    let j = c .before .keys .result % 65536 in
+    ap stored (p .pair-sizes .ensures .below j (below c))
+    ∙ stored-eq (at (s .args .part .now) j) (omega (arith, s .pre .small j (below c)))
+
+pair-small : (c : tie.Else1) →
+    let p = c .before .before .before .before .before .before .before .before in
+    natAbs (stored (at (p .pair-sizes .last .1 .0) (c .before .keys .result % 65536))) < 2097152
+pair-small c =
+    let s = c .before .before .before .before .before .before .before .before .before .before in
+    subst (λ (z : ℤ). natAbs z < 2097152) (sym (pair-read c)) (s .pre .small (c .before .keys .result % 65536) (below c))
+
+first-is : (c : tie.After-first-of) →
+    let k = c .before .before .before in
+    let s = k .before .before .before .before .before .before .before .before .before in
+    stored (c .first-of .result) ≡ firstOf (at (s .args .part .now) (k .keys .result % 65536))
+first-is c = as-it-is (c .first-of .ok) ∙ c .first-of .ensures ∙ ap firstOf (pair-read (c .before .before))
+
+second-is : (c : tie.After-second-of) →
+    let k = c .before .before .before .before in
+    let s = k .before .before .before .before .before .before .before .before .before in
+    stored (c .second-of .result) ≡ secondOf (at (s .args .part .now) (k .keys .result % 65536))
+second-is c = as-it-is (c .second-of .ok) ∙ c .second-of .ensures ∙ ap secondOf (pair-read (c .before .before .before))
+
+-- ---- the needs
+
+pair-sizes-requires : tie.Need-pair-sizes-requires
+pair-sizes-requires c κs = search needs
+
+add-e : tie.Need-add-e
+add-e c = search needs
+
+mul-greatest : tie.Need-mul-greatest
+mul-greatest c = search needs
+
+sub-greatest : tie.Need-sub-greatest
+sub-greatest c = search needs
+
+part-greatest-start : tie.Need-part-greatest-start
+part-greatest-start c = search needs
+
+part-greatest-end : tie.Need-part-greatest-end
+part-greatest-end c = search needs
+
+greatest-requires : tie.Need-greatest-requires
+greatest-requires c κs =
+    let p = c .before .before .before in
+    held-sizes (p .before .before .pre) (sizes-at p)
+
+mul-keys : tie.Need-mul-keys
+mul-keys c = search needs
+
+sub-keys : tie.Need-sub-keys
+sub-keys c = search needs
+
+part-keys-start : tie.Need-part-keys-start
+part-keys-start c = search needs
+
+part-keys-end : tie.Need-part-keys-end
+part-keys-end c = search needs
+
+keys-requires : tie.Need-keys-requires
+keys-requires c κs =
+    let g = c .before .before in
+    let p = g .before .before .before .before in
+    (held-sizes (p .before .before .pre) (sizes-at p), size-whole (g .greatest .ensures) (g .greatest .ok))
+
+same-length : tie.Need-same-length
+same-length c = search needs
+
+returns : tie.Need-returns
+returns c = told-many (told (c .before)) (c .if1 .taken) refl
+
+cast-j : tie.Need-cast-j
+cast-j c = search needs
+
+mul-z : tie.Need-mul-z
+mul-z c = search needs
+
+slice-copy-out-z : tie.Need-slice-copy-out-z
+slice-copy-out-z c =
+    let p = c .before .before .before .before .before .before .before .before in
+    omega (arith, below c, p .pair-sizes .ensures .long, p .before .before .pre .size)
+
+first-of-requires : tie.Need-first-of-requires
+first-of-requires c κs = pair-small (c .before)
+
+second-of-requires : tie.Need-second-of-requires
+second-of-requires c κs = pair-small (c .before .before)
+
+peak-at-requires : tie.Need-peak-at-requires
+peak-at-requires c κs =
+    let k = c .before .before .before .before in
+    let g = k .before .before .before in
+    let s = g .before .before .before .before .before .before in
+    let e = g .greatest .ensures in
+    let l = g .greatest .ok in
+    (s .pre .few, below (c .before .before .before), size-whole e l, size-small e l)
+
+same-length-2 : tie.Need-same-length-2
+same-length-2 c = search needs
+
+returns-2 : tie.Need-returns-2
+returns-2 c =
+    let e = c .before .before .before .before in
+    let k = e .before in
+    let g = k .before .before .before in
+    told-peak (told k) (e .if1 .left)
+    (peak-as (as-it-is (g .greatest .ok)) (first-is (c .before .before)) (second-is (c .before)) (c .peak-at .ensures))
+
+pub search-spec : {M : Type 1} → statement M
+search-spec =
+    tie.close
+    (tie.spec
+    pair-sizes-requires
+    add-e
+    mul-greatest
+    sub-greatest
+    part-greatest-start
+    part-greatest-end
+    greatest-requires
+    mul-keys
+    sub-keys
+    part-keys-start
+    part-keys-end
+    keys-requires
+    same-length
+    returns
+    cast-j
+    mul-z
+    slice-copy-out-z
+    first-of-requires
+    second-of-requires
+    peak-at-requires
+    same-length-2
+    returns-2)

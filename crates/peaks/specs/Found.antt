@@ -1,0 +1,133 @@
+-- What the search finds is the peak. Assumes nothing.
+use Prim.Native.Nat.{ℕ, _+_, _-_, _%_, _≤_, _<_, max}
+use mathlib.Core.Path.{_≡_, sym, ap, ap₂, _∙_, subst}
+use mathlib.Core.Bool.{true, false, false≢true}
+use mathlib.Core.List.{List}
+use mathlib.Core.Logic.{_⊎_, inl, inr, ⊎-elim}
+use native.Mathlib.Decide.{ℕ-discrete}
+use native.Mathlib.Omega.{arith}
+use lib.Dec.{eqb}
+use lib.IntN.{ℤ, pos, natAbs}
+use lib.ListN.{length, take, drop}
+use borrow.Author.Tests.{eq-eqb, ne-eqb}
+use Rattle.words.specs.Sum.{greatestBelow}
+use Rattle.words.specs.SumLaws.{total-ext}
+use Rattle.words.specs.Parts.{part-at, part-length}
+use Rattle.words.specs.Written.{Written}
+use Rattle.area.specs.Area.{at}
+use Rattle.hadamard.specs.Correlation.{constantOf}
+use Rattle.hadamard.specs.Peak.{Alone, Shared, alone-count, alone-first, alone-greatest, greatest-bound, peak, shared-count}
+use Rattle.peaks.specs.declared.Peak.{Peak}
+use Rattle.peaks.specs.Peaks.{entrySizes, firstOf, joined, keysBelow, secondOf, sizeOf, IsPeak, Packed, PeakAt, Sizes}
+use Rattle.peaks.specs.Keys.{keys-alone, keys-ext, keys-shared}
+use Rattle.peaks.specs.Pairs.{greater-sign, pair-alone, pair-even, pairs-greatest, pairs-share, sizes}
+
+-- ---- the peak of some values
+
+module _ (n : ℕ) (c : ℕ → ℤ) {p : Peak} where
+  one-peak : {u : ℕ} → Alone n (λ v. natAbs (c v)) u → p .alone ≡ true → p .mask ≡ u → p .constant ≡ pos (constantOf (c u))
+      → p .whole ≡ eqb (greatestBelow n (λ v. natAbs (c v))) n → IsPeak n c p
+  one-peak a ea em ec ew = record {
+    alone = ea ∙ sym (eq-eqb _ 1 (alone-count a));
+    mask = λ e. em ∙ sym (alone-first a);
+    constant = λ e. ec ∙ ap (λ (v : ℕ). pos (constantOf (c v))) (sym em);
+    whole = λ e. ew;
+  }
+
+  no-peak : Shared n (λ v. natAbs (c v)) → p .alone ≡ false → IsPeak n c p
+  no-peak s ea = record {
+    alone = ea ∙ sym (ne-eqb _ 1 (shared-count s));
+    mask = λ e. absurd (false≢true (sym ea ∙ e));
+    constant = λ e. absurd (false≢true (sym ea ∙ e));
+    whole = λ e. absurd (false≢true (sym ea ∙ e));
+  }
+
+-- ---- the greatest size of h pairs, and its key
+
+pub record Told (h : ℕ) (x y : ℕ → ℤ) (g : ℤ) (key : ℕ) : Type 0 where
+  pub some : 0 < h
+  pub few : h ≤ 512
+  pub greatest : g ≡ pos (greatestBelow h (sizes x y))
+  pub keys : key ≡ keysBelow h (sizes x y) (greatestBelow h (sizes x y))
+
+module _ {h : ℕ} {x y : ℕ → ℤ} {g : ℤ} {key : ℕ} (t : Told h x y g key) where
+  pub told-many : {p : Peak} → 131071 < key → p .alone ≡ false → IsPeak (h + h) (joined h x y) p
+  told-many l ea = no-peak (h + h) (joined h x y) (pairs-share h x y (⊎-elim
+      (λ a. absurd (omega (arith, t .keys, t .few, keys-alone a, a .below)))
+      (λ s. s)
+      (peak h (sizes x y) (t .some)))) ea
+
+  module _ (l : key ≤ 131071) where
+    pub told-one : Alone h (sizes x y) (key % 65536)
+    told-one = ⊎-elim
+        (λ a. subst (Alone h (sizes x y)) (omega (arith, t .keys, t .few, keys-alone a, a .below)) a)
+        (λ s. absurd (omega (arith, t .keys, keys-shared s)))
+        (peak h (sizes x y) (t .some))
+
+    pub told-place : key % 65536 < h
+    told-place = told-one .below
+
+    module _ {p : Peak} (k : PeakAt h (key % 65536) g (x (key % 65536)) (y (key % 65536)) p) where
+      abbrev j : ℕ
+      j = key % 65536
+
+      even : (natAbs (x j) ≡ 0) ⊎ (natAbs (y j) ≡ 0) → Shared (h + h) (λ v. natAbs (joined h x y v))
+      even = pair-even h x y j told-place (λ i m. omega (arith, greatest-bound (sizes x y) h i m, alone-greatest told-one))
+
+      pub told-peak : IsPeak (h + h) (joined h x y) p
+      told-peak = elim (ℕ-discrete (natAbs (x j)) 0) [
+        | yes e ↦ no-peak (h + h) (joined h x y) (even (inl e)) (k .first e)
+        | no nx ↦ elim (ℕ-discrete (natAbs (y j)) 0) [
+          | yes e ↦ no-peak (h + h) (joined h x y) (even (inr e)) (k .second e)
+          | no ny ↦
+              one-peak (h + h) (joined h x y) (pair-alone h x y j told-one nx ny) (k .alone nx ny) (k .mask)
+              (k .constant ∙ ap pos (sym (greater-sign h x y j told-place)))
+              (k .whole ∙ ap (λ (v : ℕ). eqb v (h + h)) (ap natAbs (t .greatest) ∙ sym (pairs-greatest h x y)))
+        ]
+      ]
+
+-- ---- the sizes in a list
+
+-- zs holds the h numbers s 0, .., s (h - 1)
+pub record Held (h : ℕ) (s : ℕ → ℕ) (zs : List ℤ) : Type 0 where
+  pub long : length zs ≡ h
+  pub each : (i : ℕ) → i < h → at zs i ≡ pos (s i)
+
+-- the pairs' sizes, written after them, as the code takes `[h..h + h]`
+pub sizes-held :
+    {h : ℕ} {xs ys : List ℤ} → Packed h xs → Written (pos 0) h h (λ i. pos (sizeOf (at xs i))) xs ys
+    → Held h (λ i. sizeOf (at xs i)) (take ((h + h) - h) (drop h ys))
+sizes-held {h} {ys = ys} k w =
+    let room : h + h ≤ length ys = omega (arith, w .long, k .size) in
+    let all : (h + h) - h ≡ h = omega arith in
+    rw all (record { long = part-length (pos 0) h h ys room; each = λ i l. part-at (pos 0) h h ys room i l ∙ w .within i l })
+
+module _ {h : ℕ} {xs zs : List ℤ} (k : Packed h xs) (s : Held h (λ i. sizeOf (at xs i)) zs) where
+  pub held-sizes : Sizes zs
+  held-sizes = record {
+    few = omega (arith, s .long, k .few);
+    whole = λ i l. each i l ∙ ap (λ (z : ℤ). pos (natAbs z)) (sym (each i l));
+    small = λ i l. omega (arith, ap natAbs (each i l), k .first i (below l), k .second i (below l));
+  }
+    where
+      below : {i : ℕ} → i < length zs → i < h
+      below l = omega (arith, s .long)
+
+      each : (i : ℕ) → i < length zs → at zs i ≡ pos (sizeOf (at xs i))
+      each i l = s .each i (below l)
+
+  pub held-told :
+      {g : ℤ} {key : ℕ} → g ≡ pos (greatestBelow (length zs) (entrySizes zs)) → key ≡ keysBelow (length zs) (entrySizes zs) (natAbs g)
+      → Told h (λ i. firstOf (at xs i)) (λ i. secondOf (at xs i)) g key
+  held-told {g} eg ek = record {
+    some = k .some;
+    few = k .few;
+    greatest = eg ∙ ap pos best;
+    keys = ek ∙ ap₂ (λ (n b : ℕ). keysBelow n (entrySizes zs) b) (s .long) (ap natAbs eg ∙ best) ∙ keys-ext h _ _ _ same;
+  }
+    where
+      same : (i : ℕ) → i < h → entrySizes zs i ≡ sizeOf (at xs i)
+      same i l = ap natAbs (s .each i l)
+
+      best : greatestBelow (length zs) (entrySizes zs) ≡ greatestBelow h (λ i. sizeOf (at xs i))
+      best = ap (λ (n : ℕ). greatestBelow n (entrySizes zs)) (s .long) ∙ total-ext max 0 h _ _ same

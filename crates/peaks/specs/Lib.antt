@@ -1,0 +1,7 @@
+-- Definitions: Peaks. The rest are laws.
+pub mod Peaks
+pub mod OnePair
+pub mod Pairs
+pub mod Keys
+pub mod Found
+pub mod Packing

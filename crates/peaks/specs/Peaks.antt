@@ -1,0 +1,89 @@
+-- Two numbers packed in one, the sizes of pairs, and the peak of some values. Assumes nothing.
+use Prim.Native.Nat.{ℕ, _+_, _-_, _*_, _/_, _%_, _^_, _≤_, _<_}
+use mathlib.Core.Path.{_≡_}
+use mathlib.Core.Bool.{Bool, true, false, cond}
+use mathlib.Core.List.{List}
+use mathlib.Core.Logic.{_≢_}
+use lib.Dec.{eqb, ltb}
+use lib.IntN.{ℤ, pos, negsuc, natAbs, _+ℤ_, _-ℤ_, _*ℤ_}
+use lib.ListN.{length}
+use Rattle.words.specs.Sum.{greatestBelow, sumBelow}
+use Rattle.area.specs.Area.{at}
+use Rattle.hadamard.specs.Correlation.{sign, constantOf, countBelow, firstBelow}
+use Rattle.peaks.specs.declared.Peak.{Peak}
+
+-- ---- pairs
+
+-- x and y in one number, where both are small
+abbrev pub packed : ℤ → ℤ → ℤ
+packed x y = x +ℤ y *ℤ pos 2048
+
+-- raised so that both digits to base 2048 count from 1024 up
+abbrev pub raised : ℤ → ℕ
+raised z = natAbs (z +ℤ pos 2098176)
+
+unfoldable pub firstOf : ℤ → ℤ
+firstOf z = pos (raised z % 2048) -ℤ pos 1024
+
+unfoldable pub secondOf : ℤ → ℤ
+secondOf z = pos (raised z / 2048) -ℤ pos 1024
+
+-- the greater of |x + y| and |x - y|
+abbrev pub pairSize : ℤ → ℤ → ℕ
+pairSize x y = natAbs x + natAbs y
+
+abbrev pub sizeOf : ℤ → ℕ
+sizeOf z = pairSize (firstOf z) (secondOf z)
+
+-- the signs of the bits i and h + i
+abbrev pub signsPacked : ℕ → List ℤ → ℕ → ℤ
+signsPacked h xs i = packed (sign (natAbs (at xs i))) (sign (natAbs (at xs (h + i))))
+
+-- h pairs of numbers up to 512 in the front of a part of twice that length
+pub record Packed (h : ℕ) (xs : List ℤ) : Type 0 where
+  pub some : 0 < h
+  pub few : h ≤ 512
+  pub size : length xs ≡ h + h
+  pub small : (i : ℕ) → i < h → natAbs (at xs i) < 2097152
+  pub first : (i : ℕ) → i < h → natAbs (firstOf (at xs i)) ≤ 512
+  pub second : (i : ℕ) → i < h → natAbs (secondOf (at xs i)) ≤ 512
+
+-- the absolute values of a list's numbers
+abbrev pub entrySizes : List ℤ → ℕ → ℕ
+entrySizes xs i = natAbs (at xs i)
+
+-- a list of sizes
+pub record Sizes (xs : List ℤ) : Type 0 where
+  pub few : length xs ≤ 512
+  pub whole : (i : ℕ) → i < length xs → at xs i ≡ pos (natAbs (at xs i))
+  pub small : (i : ℕ) → i < length xs → natAbs (at xs i) ≤ 1024
+
+-- the sum of 65536 + i over the places i below n where f is x
+unfoldable pub keysBelow : ℕ → (ℕ → ℕ) → ℕ → ℕ
+keysBelow n f x = sumBelow n (λ i. cond (eqb (f i) x) (65536 + i) 0)
+
+-- ---- peaks
+
+-- the sums of h pairs, then their differences
+abbrev pub joined : ℕ → (ℕ → ℤ) → (ℕ → ℤ) → ℕ → ℤ
+joined h x y u = cond (ltb u h) (x u +ℤ y u) (x (u - h) -ℤ y (u - h))
+
+-- p is the place below n where the absolute value of c is greatest, where there is one alone
+pub record IsPeak (n : ℕ) (c : ℕ → ℤ) (p : Peak) : Type 0 where
+  pub alone : p .alone ≡ eqb (countBelow n (λ u. natAbs (c u)) (greatestBelow n (λ u. natAbs (c u)))) 1
+  pub mask : p .alone ≡ true → p .mask ≡ firstBelow n (λ u. natAbs (c u)) (greatestBelow n (λ u. natAbs (c u)))
+  pub constant : p .alone ≡ true → p .constant ≡ pos (constantOf (c (p .mask)))
+  pub whole : p .alone ≡ true → p .whole ≡ eqb (greatestBelow n (λ u. natAbs (c u))) n
+
+-- both below 0, or neither
+abbrev pub alike : ℤ → ℤ → Bool
+alike x y = eqb (constantOf x) (constantOf y)
+
+-- the peak that the pair j, which is x, y, of size g gives
+pub record PeakAt (h j : ℕ) (g x y : ℤ) (p : Peak) : Type 0 where
+  pub alone : natAbs x ≢ 0 → natAbs y ≢ 0 → p .alone ≡ true
+  pub first : natAbs x ≡ 0 → p .alone ≡ false
+  pub second : natAbs y ≡ 0 → p .alone ≡ false
+  pub mask : p .mask ≡ cond (alike x y) j (h + j)
+  pub constant : p .constant ≡ pos (constantOf x)
+  pub whole : p .whole ≡ eqb (natAbs g) (h + h)
