@@ -295,7 +295,9 @@ module _ {f : Round} {ys zs us : List ℤ} {i used a : ℕ} {told : Told} (answe
       let l : q < 2 ^ m = coset-here p h in
       omega (arith, cast-is p h, ap natAbs (kept .same e .same q l ∙ front-here lent .each q l))
 
-  pub answered-cast : Projects m (i + 1) (back a zs us) × (Tally (2 ^ suc m) (i + 1) (back a zs us) × (Voter m answer (back a zs us) × Unmoved m (i + 1) (back a zs us) told))
+  pub answered-cast :
+      Projects m (i + 1) (back a zs us)
+      × (Tally (2 ^ suc m) (i + 1) (back a zs us) × (Voter m answer (back a zs us) × Unmoved m (i + 1) (back a zs us) told))
   answered-cast = (
     projects-of stage long-back front-back,
     (
@@ -311,16 +313,20 @@ module _ {f : Round} {ys zs us : List ℤ} {i used a : ℕ} {told : Told} (answe
   vote-is p u =
       by-answer
       (λ (d : Decoded) (x : Outcome). Holds (2 ^ m) x us → voteOf m (i + 1) (back a zs us) d p ≡ vote (suc i) (project m (suc i) word) x p)
-      (λ d k l b c h. cast-is p u ∙ ap (λ (z : ℤ). (bit (project m (suc i) word) (cosetOf (suc i) p) + natAbs z) % 2) (h .each (cosetOf (suc i) p) (coset-here p u)))
+      (λ d k l b c h.
+      cast-is p u
+      ∙ ap (λ (z : ℤ). (bit (project m (suc i) word) (cosetOf (suc i) p) + natAbs z) % 2) (h .each (cosetOf (suc i) p) (coset-here p u)))
       (λ why e k l b c h. refl) answer o late said holds
 
 -- its votes are cast, and its leaves counted
 pub record Cast (f : Round) (ys zs us ts : List ℤ) (i used a : ℕ) (told : Told) (count : Count) : Type 0 where
   pub answered : Answered f ys zs us i used a told
   pub counts : count ≡ countIn (valuesOf (told .answer))
-  pub votes : Written (pos 0) (2 ^ suc (f .m)) (2 ^ suc (f .m)) (λ p. at (back a zs us) (2 ^ suc (f .m) + p) +ℤ pos (voteOf (f .m) (i + 1) (back a zs us) (told .answer) p)) (back a zs us) ts
+  pub votes : Written (pos 0) (2 ^ suc (f .m)) (2 ^ suc (f .m))
+      (λ p. at (back a zs us) (2 ^ suc (f .m) + p) +ℤ pos (voteOf (f .m) (i + 1) (back a zs us) (told .answer) p)) (back a zs us) ts
 
-module _ {f : Round} {ys zs us ts : List ℤ} {i used a : ℕ} {told : Told} {count : Count} (cast : Cast f ys zs us ts i used a told count) where
+module _ {f : Round} {ys zs us ts : List ℤ} {i used a : ℕ} {told : Told} {count : Count}
+    (cast : Cast f ys zs us ts i used a told count) where
   open Round f using (m, r, limit, left, word, size)
   open Cast cast using (answered, counts, votes)
 

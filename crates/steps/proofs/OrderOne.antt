@@ -142,7 +142,8 @@ module _ {m : ℕ} {w : List ℕ} {h : List ℤ} {p : Peak} (b : Best m w h p) w
     mask-below = rw mask-is (one-alone (2 ^ m) size (eqb-true _ 1 (sym alone-is ∙ e)) .below)
 
     -- the nearest codeword was written, s its constant
-    module _ {ys : List ℤ} (s : ℕ) (es : s ≡ constantOf (at h (p .mask))) (ey : ys ≡ tabulate (length h) (λ q. pos ((s + ones (bitAnd (p .mask) q)) % 2))) where
+    module _ {ys : List ℤ} (s : ℕ) (es : s ≡ constantOf (at h (p .mask)))
+        (ey : ys ≡ tabulate (length h) (λ q. pos ((s + ones (bitAnd (p .mask) q)) % 2))) where
       nearest : Front (2 ^ m) (affine m (p .mask) (constantOf (correlation m (values w) (p .mask)))) ys
       nearest = record {
         size = word-affine m _ _ .size;
@@ -156,14 +157,18 @@ module _ {m : ℕ} {w : List ℕ} {h : List ℤ} {p : Peak} (b : Best m w h p) w
       word-read = rw (order1-is, e) (record { said = refl; word = nearest })
 
       -- it is the word itself
-      pub word-kept : {xs : List ℤ} → length xs ≡ 2 ^ m → Bits (2 ^ m) xs → w ≡ wordOf (2 ^ m) xs → natAbs (stored (at h (p .mask))) ≡ length h → SameFront (2 ^ m) xs ys
-      word-kept {xs} long bits ew whole = record {
-        long = ap length ey ∙ length-tabulate (length h) _ ∙ best-length ∙ sym long;
-        same = λ q l.
-            nearest .each q l
-            ∙ ap (λ (v : List ℕ). pos (bit v q)) (sym (whole-affine (b .word) (p .mask) (sym (same (p .mask) mask-below) ∙ rw read-best at whole ∙ best-length)) ∙ ew)
-            ∙ sym (bits-at bits q l);
-      }
+      pub word-kept :
+          {xs : List ℤ} → length xs ≡ 2 ^ m → Bits (2 ^ m) xs → w ≡ wordOf (2 ^ m) xs
+          → natAbs (stored (at h (p .mask))) ≡ length h → SameFront (2 ^ m) xs ys
+      word-kept {xs} long bits ew whole =
+          let size-whole : size (p .mask) ≡ 2 ^ m = sym (same (p .mask) mask-below) ∙ rw read-best at whole ∙ best-length in
+          record {
+            long = ap length ey ∙ length-tabulate (length h) _ ∙ best-length ∙ sym long;
+            same = λ q l.
+                nearest .each q l
+                ∙ ap (λ (v : List ℕ). pos (bit v q)) (sym (whole-affine (b .word) (p .mask) size-whole) ∙ ew)
+                ∙ sym (bits-at bits q l);
+          }
 
   -- the sign of its correlation, as the code tests it
   pub sign-one : ltZ (stored (at h (p .mask))) (pos 0) ≡ true → constantOf (at h (p .mask)) ≡ 1

@@ -56,13 +56,14 @@ below-small c =
     let b = best-is (c .before .before) in
     omega (arith, mask-below b (not-false _ (c .if1 .left)), pow-mono {j = 10} (b .small))
 
-abbrev wide : tie.Joined2 → tie.Else1
-wide c = c .before .before .before .before
+-- from the constant back to where one mask is best
+abbrev lone : tie.Joined2 → tie.Else1
+lone c = c .before .before .before .before
 
-constant-is : (c : tie.Joined2) → let b = wide c .before .before in
+constant-is : (c : tie.Joined2) → let b = lone c .before .before in
     c .if2 .s ≡ constantOf (at (b .before .before .before .correlate .last .0) (b .best .result .mask))
 constant-is c =
-    let b = best-is (wide c .before .before) in
+    let b = best-is (lone c .before .before) in
     ⊎-elim (λ w. w .1 ∙ sym (sign-one b (w .0 .taken))) (λ w. w .1 ∙ sym (sign-zero b (w .0 .left))) (c .if2 .came)
 
 constant-lt : (c : tie.Joined2) → c .if2 .s < 2
@@ -116,7 +117,7 @@ slice-copy-out-if2 c = below (c .before .before)
 
 write-affine-requires : tie.Need-write-affine-requires
 write-affine-requires c κs =
-    let e = wide (c .before) in
+    let e = lone (c .before) in
     let b = best-is (e .before .before) in
     let length-is = best-length b in
     let small = pow-mono {j = 10} (b .small) in
@@ -128,7 +129,7 @@ same-length-2 c = search needs
 returns-2 : tie.Need-returns-2
 returns-2 c =
     let j = c .before .before .before in
-    let e = wide j in
+    let e = lone j in
     let b = best-is (e .before .before) in
     let a = e .before .before .before .before .before .before .before .before .before .before in
     let alone = not-false _ (e .if1 .left) in

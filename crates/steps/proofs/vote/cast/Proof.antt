@@ -34,15 +34,16 @@ enum-known-answer c = search needs
 returns : tie.Need-returns
 returns c =
     let s = c .before .before .before .before in
-    let n : ℕ = 2 ^ suc (s .args .m) in (
-      ap (λ (a : Decoded). countIn (valuesOf a)) (sym (c .before .before .answer .given .1)),
-      no-votes n (s .args .area .now) (voteOf (s .args .m) (s .args .b) (s .args .area .now) (s .args .told .answer)) (s .pre .1 .1 .1 .none (c .if1 .taken)),
+    let a = s .args in (
+      ap (λ (d : Decoded). countIn (valuesOf d)) (sym (c .before .before .answer .given .1)),
+      no-votes (2 ^ suc (a .m)) (a .area .now) (voteOf (a .m) (a .b) (a .area .now) (a .told .answer)) (s .pre .1 .1 .1 .none (c .if1 .taken)),
     )
 
 add-votes-requires : tie.Need-add-votes-requires
 add-votes-requires c κs =
     let s = c .before .before .before .before .before in
-    (s .pre .0, (s .pre .1 .0, subst (λ (a : Decoded). Voter (s .args .m) a (s .args .area .now)) (c .before .before .before .answer .given .1) (s .pre .1 .1 .0)))
+    let voter = subst (λ (a : Decoded). Voter (s .args .m) a (s .args .area .now)) (c .before .before .before .answer .given .1) (s .pre .1 .1 .0) in
+    (s .pre .0, (s .pre .1 .0, voter))
 
 enum-known-answer-2 : tie.Need-enum-known-answer-2
 enum-known-answer-2 c = search needs
