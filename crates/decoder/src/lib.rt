@@ -40,7 +40,8 @@ fn run(
     ensures { λ d. ⌜ Decodes (limited leaves (Rattle.rule.specs.Reading.reading r m rounds (now (word .entry)))) (now (word .entry)) (now (out .entry)) (now (out .exit)) (now (area .entry)) (now (area .exit)) d ⌝ }
 {
     area::load(word, area);
-    let answer = reading(m, r, rounds, leaves, area);
+    let told = reading(m, r, rounds, leaves, area);
+    let answer = told.answer;
     deliver(answer, area, out);
     area::fill(area, 0);
     answer

@@ -30,7 +30,7 @@ pub fn signs(a: &mut [i32])
 }
 
 // The absolute value.
-fn size(x: i32) -> u32
+pub fn size(x: i32) -> u32
     requires { ⌜ natAbs x < 2 ^ 31 ⌝ }
     ensures { λ g. ⌜ g ≡ natAbs x ⌝ }
 {

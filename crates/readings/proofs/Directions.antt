@@ -3,6 +3,7 @@ use Prim.Native.Nat.{ℕ, suc, _+_, _-_, _*_, _%_, _^_, _≤_, _<_}
 use native.Mathlib.Omega.{arith}
 use native.Mathlib.Numerals.{add-one}
 use mathlib.Core.Path.{_≡_, refl, sym, ap, ap₂, subst, _∙_}
+use mathlib.Core.Bool.{true}
 use mathlib.Core.List.{List}
 use lib.ListN.{length, take, drop, replicate, length-replicate, getD-replicate}
 use lib.IntN.{ℤ, pos, natAbs, _+ℤ_, pos-+ℤ-pos}
@@ -17,6 +18,7 @@ use Rattle.words.specs.Written.{Written}
 use Rattle.area.specs.Area.{at, IsBit, Bits, Front, SameFront, wordOf}
 use Rattle.area.specs.AreaLaws.{bits-at, is-bit, front-bits, front-word}
 use Rattle.refusals.specs.declared.Decoded.{Decoded}
+use Rattle.refusals.specs.declared.Decoded.the-variants.{Accepted, Refused}
 use Rattle.direction.specs.Cosets.{coset-lt}
 use Rattle.direction.specs.Direction.{project, cosetOf}
 use Rattle.direction.specs.Insert.{highest-top}
@@ -27,7 +29,8 @@ use Rattle.rule.specs.Decoding.{limited, answerOf}
 use Rattle.rule.specs.DecodingLaws.{limited-within}
 use Rattle.rule.specs.Calls.{valuesOf}
 use Rattle.rule.specs.Counts.{reading-noise}
-use Rattle.steps.specs.Steps.{countIn, voteOf, Voter, Holds, Read}
+use Rattle.steps.specs.Steps.{countIn, voteOf, Voter, Unmoved, Holds, Read, Kept}
+use Rattle.steps.specs.declared.Told.{Told}
 use Rattle.steps.specs.declared.Count.{Count}
 use Rattle.steps.specs.declared.Count.the-variants.{Done, Exhausted}
 use Rattle.readings.specs.Readings.{countOf, Ready, Voted}
@@ -207,19 +210,28 @@ module _ {f : Round} {ys zs : List ℤ} {i used a : ℕ} (lent : Lent f ys zs i 
   word-here = front-word (omega (arith, room-rest)) front-here
 
 -- its reading came back with an answer
-pub record Answered (f : Round) (ys zs us : List ℤ) (i used a : ℕ) (answer : Decoded) : Type 0 where
+pub record Answered (f : Round) (ys zs us : List ℤ) (i used a : ℕ) (told : Told) : Type 0 where
   pub lent : Lent f ys zs i used a
   pub same : length us ≡ length (rest a zs)
-  pub read : Read (2 ^ f .m) (limited (f .left - used) (reading (f .r) (f .m) (f .limit) (wordOf (2 ^ f .m) (rest a zs)))) us answer
+  pub read : Read (2 ^ f .m) (limited (f .left - used) (reading (f .r) (f .m) (f .limit) (wordOf (2 ^ f .m) (rest a zs)))) us (told .answer)
+  pub kept : Kept (2 ^ f .m) (rest a zs) us told
 
 -- the area then
 abbrev pub back : ℕ → List ℤ → List ℤ → List ℤ
 back a zs us = putMid a (length zs - a) zs us
 
-module _ {f : Round} {ys zs us : List ℤ} {i used a : ℕ} {answer : Decoded} (answered : Answered f ys zs us i used a answer) where
+-- a direction has no vote where it would cast none
+no-vote : (m b : ℕ) (xs : List ℤ) (p : ℕ) (d : Decoded) → castVote m b xs p ≡ 0 → voteOf m b xs d p ≡ 0
+no-vote m b xs p (Accepted k l) e = e
+no-vote m b xs p (Refused why k l) e = refl
+
+module _ {f : Round} {ys zs us : List ℤ} {i used a : ℕ} {told : Told} (answered : Answered f ys zs us i used a told) where
   open Round f using (m, r, limit, left, word, size)
-  open Answered answered using (lent, same, read)
+  open Answered answered using (lent, same, read, kept)
   open Lent lent using (stage, projected, place)
+
+  abbrev answer : Decoded
+  answer = told .answer
 
   -- the outcome of the reading under its leaf limit
   abbrev o : Outcome
@@ -263,7 +275,29 @@ module _ {f : Round} {ys zs us : List ℤ} {i used a : ℕ} {answer : Decoded} (
       (λ d k l b c h. record { decoded = λ q u. subst IsBit (sym (at-decoded q u ∙ h .each q u)) (is-bit _ (h .bits q u)) })
       (λ why e k l b c h. tt) answer o late said holds
 
-  pub answered-cast : Projects m (i + 1) (back a zs us) × (Tally (2 ^ suc m) (i + 1) (back a zs us) × Voter m answer (back a zs us))
+  coset-here : (p : ℕ) → p < 2 ^ suc m → cosetOf (suc i) p < 2 ^ m
+  coset-here p h =
+      coset-lt (suc i) (highest-top (suc i) (omega arith) (omega (arith, pow-mono {i = suc m} {j = 10} (omega arith)))) p m (omega arith) h
+
+  -- the vote, where the reading gave a word
+  cast-is : (p : ℕ) (h : p < 2 ^ suc m)
+      → castVote m (i + 1) (back a zs us) p ≡ (bit (project m (suc i) word) (cosetOf (suc i) p) + natAbs (at us (cosetOf (suc i) p))) % 2
+  cast-is p h =
+      ap (λ (j : ℕ). castVote m j (back a zs us) p) (add-one i)
+      ∙ ap₂ (λ (x : List ℕ) (z : ℤ). (bit (project m (suc i) x) (cosetOf (suc i) p) + natAbs z) % 2)
+      (front-word (omega (arith, long-back)) front-back)
+      (at-decoded (cosetOf (suc i) p) (coset-here p h))
+
+  -- where the word is as it was, each vote compares a bit with itself
+  kept-vote : told .kept ≡ true → (p : ℕ) → p < 2 ^ suc m → castVote m (i + 1) (back a zs us) p ≡ 0
+  kept-vote e p h =
+      let q : ℕ = cosetOf (suc i) p in
+      let l : q < 2 ^ m = coset-here p h in
+      omega (arith, cast-is p h, ap natAbs (kept .same e .same q l ∙ front-here lent .each q l))
+
+  pub answered-cast :
+      Projects m (i + 1) (back a zs us)
+      × (Tally (2 ^ suc m) (i + 1) (back a zs us) × (Voter m answer (back a zs us) × Unmoved m (i + 1) (back a zs us) told))
   answered-cast = (
     projects-of stage long-back front-back,
     (
@@ -271,32 +305,28 @@ module _ {f : Round} {ys zs us : List ℤ} {i used a : ℕ} {answer : Decoded} (
         whole = λ p h. votes-here p h ∙ ap (λ (z : ℤ). pos (natAbs z)) (sym (votes-here p h));
         few = λ p h. subst (λ (z : ℤ). natAbs z < i + 1) (sym (votes-here p h)) (votes-few p);
       },
-      voter,
+      (voter, record { none = λ e p h. no-vote m (i + 1) (back a zs us) p answer (kept-vote e p h) }),
     ),
   )
-
-  coset-here : (p : ℕ) → p < 2 ^ suc m → cosetOf (suc i) p < 2 ^ m
-  coset-here p h =
-      coset-lt (suc i) (highest-top (suc i) (omega arith) (omega (arith, pow-mono {i = suc m} {j = 10} (omega arith)))) p m (omega arith) h
 
   vote-is : (p : ℕ) → p < 2 ^ suc m → voteOf m (i + 1) (back a zs us) answer p ≡ vote (suc i) (project m (suc i) word) o p
   vote-is p u =
       by-answer
       (λ (d : Decoded) (x : Outcome). Holds (2 ^ m) x us → voteOf m (i + 1) (back a zs us) d p ≡ vote (suc i) (project m (suc i) word) x p)
       (λ d k l b c h.
-      ap (λ (j : ℕ). castVote m j (back a zs us) p) (add-one i)
-      ∙ ap₂ (λ (x : List ℕ) (z : ℤ). (bit (project m (suc i) x) (cosetOf (suc i) p) + natAbs z) % 2)
-      (front-word (omega (arith, long-back)) front-back)
-      (at-decoded (cosetOf (suc i) p) (coset-here p u) ∙ h .each (cosetOf (suc i) p) (coset-here p u)))
+      cast-is p u
+      ∙ ap (λ (z : ℤ). (bit (project m (suc i) word) (cosetOf (suc i) p) + natAbs z) % 2) (h .each (cosetOf (suc i) p) (coset-here p u)))
       (λ why e k l b c h. refl) answer o late said holds
 
 -- its votes are cast, and its leaves counted
-pub record Cast (f : Round) (ys zs us ts : List ℤ) (i used a : ℕ) (answer : Decoded) (count : Count) : Type 0 where
-  pub answered : Answered f ys zs us i used a answer
-  pub counts : count ≡ countIn (valuesOf answer)
-  pub votes : Written (pos 0) (2 ^ suc (f .m)) (2 ^ suc (f .m)) (λ p. at (back a zs us) (2 ^ suc (f .m) + p) +ℤ pos (voteOf (f .m) (i + 1) (back a zs us) answer p)) (back a zs us) ts
+pub record Cast (f : Round) (ys zs us ts : List ℤ) (i used a : ℕ) (told : Told) (count : Count) : Type 0 where
+  pub answered : Answered f ys zs us i used a told
+  pub counts : count ≡ countIn (valuesOf (told .answer))
+  pub votes : Written (pos 0) (2 ^ suc (f .m)) (2 ^ suc (f .m))
+      (λ p. at (back a zs us) (2 ^ suc (f .m) + p) +ℤ pos (voteOf (f .m) (i + 1) (back a zs us) (told .answer) p)) (back a zs us) ts
 
-module _ {f : Round} {ys zs us ts : List ℤ} {i used a : ℕ} {answer : Decoded} {count : Count} (cast : Cast f ys zs us ts i used a answer count) where
+module _ {f : Round} {ys zs us ts : List ℤ} {i used a : ℕ} {told : Told} {count : Count}
+    (cast : Cast f ys zs us ts i used a told count) where
   open Round f using (m, r, limit, left, word, size)
   open Cast cast using (answered, counts, votes)
 

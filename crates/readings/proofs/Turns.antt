@@ -62,7 +62,7 @@ module _ (r m limit left : ℕ) (w : List ℕ) (ys : List ℤ) where
 -- ---- order 2 and above
 
 -- a reading in rounds at order r, of a word of exponent M: its projections' exponent and readings, the limits, its outcome, and the
--- length of the area
+-- area at its start
 pub record Series : Type 0 where
   pub M : ℕ
   pub m : ℕ
@@ -71,11 +71,12 @@ pub record Series : Type 0 where
   pub left : ℕ
   pub lower : List ℕ → Outcome
   pub whole : Outcome
-  pub size : ℕ
+  pub start : List ℤ
 
--- after k rounds with `used` leaves, the outcome is that of the rounds from here on
+-- after k rounds with `used` leaves, the outcome is that of the rounds from here on; before the first the word is as it was
 pub record Turn (f : Series) (ys : List ℤ) (k used : ℕ) : Type 0 where
-  pub long : length ys ≡ f .size
+  pub long : length ys ≡ length (f .start)
+  pub first : k ≡ 0 → SameFront (2 ^ suc (f .m)) (f .start) ys
   pub many : k ≤ f .limit
   pub few : used ≤ f .left
   pub bits : Bits (2 ^ suc (f .m)) ys
@@ -112,13 +113,13 @@ pub record Made (f : Series) (ys zs : List ℤ) (k used : ℕ) (c : Count) (coun
   pub up : suc (f .m) ≡ f .M
   pub turn : Turn f ys k used
   pub more : k < f .limit
-  pub room : 2 * 2 ^ f .M ≤ f .size
+  pub room : 2 * 2 ^ f .M ≤ length (f .start)
   pub same-length : length zs ≡ length ys
   pub voted : Voted (f .m) (f .left - used) (f .lower) ys zs c
   pub done : c ≡ Done count
 
 module _ {f : Series} {ys zs : List ℤ} {k used : ℕ} {c : Count} {count : ℕ} (made : Made f ys zs k used c count) where
-  open Series f using (M, m, r, limit, left, lower, whole, size)
+  open Series f using (M, m, r, limit, left, lower, whole, start)
   open Made made using (up, turn, voted)
 
   leaves : (count ≡ roundLeaves m lower (w turn)) × (roundLeaves m lower (w turn) ≤ left - used)
@@ -133,7 +134,7 @@ module _ {f : Series} {ys zs : List ℤ} {k used : ℕ} {c : Count} {count : ℕ
   power : 2 ^ suc m ≡ 2 ^ M
   power = ap (λ (j : ℕ). 2 ^ j) up
 
-  long : length zs ≡ size
+  long : length zs ≡ length start
   long = made .same-length ∙ turn .long
 
   pub made-flips : (n : ℕ) → n ≡ 2 ^ M → M ≤ 10 → ((0 < n) × (n ≤ 1024) × (2 * n ≤ length zs)) × (Bits n zs × Tally n n zs)
@@ -154,7 +155,7 @@ pub record Flips (f : Series) (ys zs us : List ℤ) (k used : ℕ) (c : Count) (
   pub flipped : (a : ℕ) → Written (pos 0) 0 n (λ p. pos ((bit (wordOf n zs) p + flipOf n a zs p) % 2)) zs us
 
 module _ {f : Series} {ys zs us : List ℤ} {k used : ℕ} {c : Count} {count n : ℕ} {b : Bool} (flipping : Flips f ys zs us k used c count n b) where
-  open Series f using (M, m, r, limit, left, lower, whole, size)
+  open Series f using (M, m, r, limit, left, lower, whole, start)
   open Flips flipping using (made, many, none, flipped)
   open Made made using (up, turn)
 
@@ -190,6 +191,7 @@ module _ {f : Series} {ys zs us : List ℤ} {k used : ℕ} {c : Count} {count n 
   pub flips-again : b ≡ false → Turn f us (k + 1) (used + count)
   flips-again e = record {
     long = flips-here .long ∙ long made;
+    first = λ z. absurd (omega arith);
     many = omega (arith, made .more);
     few = made-few made;
     bits = front-bits room-us front-flipped;
@@ -198,34 +200,46 @@ module _ {f : Series} {ys zs us : List ℤ} {k used : ℕ} {c : Count} {count n 
   }
 
   -- nothing flipped
-  pub flips-settled : {vs : List ℤ} {d : Decoded} → b ≡ true
-      → d ≡ cond (codewordTest M r (wordOf (2 ^ M) us)) (Accepted (k + 1) (used + count)) (Refused Unsettled (k + 1) (used + count))
-      → SameFront (2 ^ M) us vs → Reads f vs d
-  flips-settled {vs} {d} e said kept =
-      rw (rw (sym still-here ∙ e) at step)
-      (go (codewordTest (suc m) r x) (said ∙ ap₂ (λ (j : ℕ) (u : List ℕ). answer (codewordTest j r u)) (sym up) same-word))
-    where
-      unchanged : Front (2 ^ suc m) x us
-      unchanged = word-settled (polled made) room flips-here (sym still-here ∙ e)
+  module _ (e : b ≡ true) where
+    unchanged : Front (2 ^ suc m) x us
+    unchanged = word-settled (polled made) room flips-here (sym still-here ∙ e)
 
-      same-word : wordOf (2 ^ M) us ≡ x
-      same-word = ap (λ (j : ℕ). wordOf j us) (sym (power made)) ∙ front-word room-us unchanged
+    pub flips-settled : {vs : List ℤ} {d : Decoded}
+        → d ≡ cond (codewordTest M r (wordOf (2 ^ M) us)) (Accepted (k + 1) (used + count)) (Refused Unsettled (k + 1) (used + count))
+        → SameFront (2 ^ M) us vs → Reads f vs d
+    flips-settled {vs} {d} said kept =
+        rw (rw (sym still-here ∙ e) at step)
+        (go (codewordTest (suc m) r x) (said ∙ ap₂ (λ (j : ℕ) (u : List ℕ). answer (codewordTest j r u)) (sym up) same-word))
+      where
+        same-word : wordOf (2 ^ M) us ≡ x
+        same-word = ap (λ (j : ℕ). wordOf j us) (sym (power made)) ∙ front-word room-us unchanged
 
-      holds : Front (2 ^ M) x vs
-      holds = front-kept (subst (λ (j : ℕ). Front j x us) (power made) unchanged) (kept .same)
+        holds : Front (2 ^ M) x vs
+        holds = front-kept (subst (λ (j : ℕ). Front j x us) (power made) unchanged) (kept .same)
 
-      answer : Bool → Decoded
-      answer t = cond t (Accepted (k + 1) (used + count)) (Refused Unsettled (k + 1) (used + count))
+        answer : Bool → Decoded
+        answer t = cond t (Accepted (k + 1) (used + count)) (Refused Unsettled (k + 1) (used + count))
 
-      l : ℕ
-      l = used + roundLeaves m lower x
+        l : ℕ
+        l = used + roundLeaves m lower x
 
-      few : l ≤ left
-      few = omega (arith, leaves made, made-few made)
+        few : l ≤ left
+        few = omega (arith, leaves made, made-few made)
 
-      go : (t : Bool) → d ≡ answer t → Read (2 ^ M) (limited left (cond t (accepted x (suc k) l) (refused 11 (suc k) l))) vs d
-      go true q = read-within vs (accepted x (suc k) l) few (rw (add-one k, leaves made .0) at (ap valuesOf q)) holds
-      go false q = read-within vs (refused 11 (suc k) l) few (rw (add-one k, leaves made .0) at (ap valuesOf q)) tt
+        go : (t : Bool) → d ≡ answer t → Read (2 ^ M) (limited left (cond t (accepted x (suc k) l) (refused 11 (suc k) l))) vs d
+        go true q = read-within vs (accepted x (suc k) l) few (rw (add-one k, leaves made .0) at (ap valuesOf q)) holds
+        go false q = read-within vs (refused 11 (suc k) l) few (rw (add-one k, leaves made .0) at (ap valuesOf q)) tt
+
+    -- in the first round: the word is as it was
+    pub flips-kept : {vs : List ℤ} → k + 1 ≡ 1 → SameFront (2 ^ M) us vs → SameFront (2 ^ M) start vs
+    flips-kept first kept =
+        let begun : SameFront (2 ^ suc m) start ys = turn .first (omega arith) in
+        record {
+          long = kept .long ∙ flips-here .long ∙ long made;
+          same = λ p h.
+              let h′ : p < 2 ^ suc m = omega (arith, power made) in
+              kept .same p h ∙ unchanged .each p h′ ∙ sym (front-of (turn .bits) .each p h′) ∙ begun .same p h′;
+        }
 
 -- ---- the start of the rounds
 
@@ -238,7 +252,7 @@ series m r limit left xs = record {
   left = left;
   lower = reading (r - 1) (m - 1) limit;
   whole = reading r m limit (wordOf (2 ^ m) xs);
-  size = length xs;
+  start = xs;
 }
 
 -- what a round asks
@@ -260,6 +274,7 @@ turn-first m r limit left xs h some bits =
     let up : m ≡ suc (m - 1) = omega arith in
     record {
       long = refl;
+      first = λ z. record { long = refl; same = λ p l. refl };
       many = omega arith;
       few = omega arith;
       bits = subst (λ (j : ℕ). Bits (2 ^ j) xs) up bits;

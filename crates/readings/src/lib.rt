@@ -4,45 +4,52 @@
 use refusals::Decoded;
 use refusals::Refusal;
 use steps::Count;
+use steps::Told;
+use steps::changed;
 use steps::leaf::first_order;
 use steps::leaf::zero_order;
 use steps::vote::cast;
 use steps::vote::flip;
 ghost use mathlib.Core.Path.{_≡_};
-ghost use mathlib.Core.Bool.{cond};
+ghost use mathlib.Core.Bool.{true, cond};
 ghost use Prim.Native.Nat.{ℕ, suc, _+_, _*_, _^_, _≤_, _<_};
 ghost use lib.ListN.{length};
 ghost use Rattle.code.specs.Code.{codewordTest};
 ghost use Rattle.area.specs.Area.{Bits, SameFront, wordOf};
 ghost use Rattle.rule.specs.Reading;
 ghost use Rattle.rule.specs.Decoding.{limited};
-ghost use Rattle.steps.specs.Steps.{Read};
+ghost use Rattle.steps.specs.Steps.{Read, Kept};
 ghost use Rattle.readings.specs.Readings.{Ready, Voted};
 
-// The answer for a word that no round changes.
-fn settle(m: usize, r: usize, k: usize, used: usize, area: &mut [i32]) -> Decoded
+// The answer for a word that no round changes: after one round it is the word given.
+fn settle(m: usize, r: usize, k: usize, used: usize, area: &mut [i32]) -> Told
     requires { ⌜ (m ≤ 10) × (2 * 2 ^ m ≤ length (now area)) × Bits (2 ^ m) (now area) ⌝ }
-    ensures tested { λ a. ⌜ a ≡ cond (codewordTest m r (wordOf (2 ^ m) (now (area .entry)))) (Decoded.Accepted k used) (Decoded.Refused Refusal.Unsettled k used) ⌝ }
-    ensures kept { λ a. ⌜ SameFront (2 ^ m) (now (area .entry)) (now (area .exit)) ⌝ }
+    ensures tested { λ t. ⌜ t .answer ≡ cond (codewordTest m r (wordOf (2 ^ m) (now (area .entry)))) (Decoded.Accepted k used) (Decoded.Refused Refusal.Unsettled k used) ⌝ }
+    ensures same { λ t. ⌜ SameFront (2 ^ m) (now (area .entry)) (now (area .exit)) ⌝ }
+    ensures first { λ t. ⌜ (t .kept ≡ true → k ≡ 1) ⌝ }
 {
     if coefficients::numbers::holds_codeword(m, r, area) {
-        Decoded::Accepted(k, used)
+        Told {
+            answer: Decoded::Accepted(k, used),
+            kept: k == 1,
+        }
     } else {
-        Decoded::Refused(Refusal::Unsettled, k, used)
+        changed(Decoded::Refused(Refusal::Unsettled, k, used))
     }
 }
 
 // The reading of the word in the front of the area, with at most `left` leaves.
-pub fn reading(m: usize, r: usize, rounds: usize, left: usize, area: &mut [i32]) -> Decoded
+pub fn reading(m: usize, r: usize, rounds: usize, left: usize, area: &mut [i32]) -> Told
     requires { ⌜ Ready m r left (now area) ⌝ }
-    ensures { λ a. ⌜ Read (2 ^ m) (limited left (Rattle.rule.specs.Reading.reading r m rounds (wordOf (2 ^ m) (now (area .entry))))) (now (area .exit)) a ⌝ }
+    ensures read { λ t. ⌜ Read (2 ^ m) (limited left (Rattle.rule.specs.Reading.reading r m rounds (wordOf (2 ^ m) (now (area .entry))))) (now (area .exit)) (t .answer) ⌝ }
+    ensures kept { λ t. ⌜ Kept (2 ^ m) (now (area .entry)) (now (area .exit)) t ⌝ }
 {
     if r == 0 {
         return zero_order(m, area);
     }
     if r == 1 {
         if left == 0 {
-            return Decoded::Refused(Refusal::TooManyLeaves, 0, left);
+            return changed(Decoded::Refused(Refusal::TooManyLeaves, 0, left));
         }
         return first_order(m, area);
     }
@@ -52,7 +59,7 @@ pub fn reading(m: usize, r: usize, rounds: usize, left: usize, area: &mut [i32])
     while k < rounds {
         match round(m - 1, r - 1, rounds, left - used, area) {
             Count::Exhausted => {
-                return Decoded::Refused(Refusal::TooManyLeaves, 0, left);
+                return changed(Decoded::Refused(Refusal::TooManyLeaves, 0, left));
             }
             Count::Done(leaves) => {
                 used += leaves;
@@ -63,7 +70,7 @@ pub fn reading(m: usize, r: usize, rounds: usize, left: usize, area: &mut [i32])
             return settle(m, r, k, used, area);
         }
     }
-    Decoded::Refused(Refusal::Flipping, k, used)
+    changed(Decoded::Refused(Refusal::Flipping, k, used))
 }
 
 // A round of the word of exponent m + 1 in the front of the area: every direction's votes, by readings at exponent m and order r.
@@ -78,8 +85,8 @@ fn round(m: usize, r: usize, rounds: usize, left: usize, area: &mut [i32]) -> Co
     let mut used = 0;
     for i in 0..n - 1 {
         direction::project(m, i + 1, area);
-        let answer = reading(m, r, rounds, left - used, &mut area[rest..]);
-        match cast(m, i + 1, answer, area) {
+        let told = reading(m, r, rounds, left - used, &mut area[rest..]);
+        match cast(m, i + 1, told, area) {
             Count::Exhausted => {
                 return Count::Exhausted;
             }

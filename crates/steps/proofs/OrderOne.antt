@@ -17,12 +17,13 @@ use borrow.Author.Tests.{eqb-true, ltb-true}
 use Rattle.words.specs.Sum.{greatestBelow, tabulate}
 use Rattle.words.specs.SumLaws.{total-ext, length-tabulate, getD-tabulate, tabulate-ext}
 use Rattle.words.specs.Word.{bit, IsWord}
-use Rattle.area.specs.Area.{at}
+use Rattle.area.specs.Area.{at, Bits, Front, SameFront, wordOf}
+use Rattle.area.specs.AreaLaws.{bits-at}
 use Rattle.area.specs.Numbers.{stored, stored-eq}
 use Rattle.hadamard.specs.declared.Peak.{Peak}
 use Rattle.hadamard.specs.Correlation.{sign, values, correlation, affine, constantOf, countBelow, firstBelow}
 use Rattle.hadamard.specs.AffineWords.{bit-affine, word-affine}
-use Rattle.hadamard.specs.CorrelationLaws.{correlation-ext, near-distance}
+use Rattle.hadamard.specs.CorrelationLaws.{correlation-ext, near-distance, whole-affine}
 use Rattle.hadamard.specs.Leaf.{Summable, Sized, sizes, IsPeak}
 use Rattle.hadamard.specs.Peak.{one-alone}
 use Rattle.hadamard.specs.PeakExt.{count-ext, first-ext}
@@ -126,31 +127,52 @@ module _ {m : ℕ} {w : List ℕ} {h : List ℤ} {p : Peak} (b : Best m w h p) w
   pub tie-read : {ys : List ℤ} → p .alone ≡ false → Read (2 ^ m) (order1 m (values w)) ys (Refused Tie 0 1)
   tie-read e = rw (order1-is, e) (record { said = refl; word = tt })
 
+  -- the best correlation, as the code reads it
+  small-size : natAbs (at h (p .mask)) < 2 ^ 31
+  small-size = spectrum-sized (b .word) (b .small) (b .spectrum) .sized (p .mask)
+
+  read-best : stored (at h (p .mask)) ≡ at h (p .mask)
+  read-best = stored-eq _ small-size
+
+  pub read-small : natAbs (stored (at h (p .mask))) < 2 ^ 31
+  read-small = rw read-best small-size
+
   module _ (e : p .alone ≡ true) where
     pub mask-below : p .mask < 2 ^ m
     mask-below = rw mask-is (one-alone (2 ^ m) size (eqb-true _ 1 (sym alone-is ∙ e)) .below)
 
-    -- s: the codeword's constant
-    pub word-read :
-        {ys : List ℤ} (s : ℕ) → s ≡ constantOf (at h (p .mask))
-        → ys ≡ tabulate (length h) (λ q. pos ((s + ones (bitAnd (p .mask) q)) % 2)) → Read (2 ^ m) (order1 m (values w)) ys (Accepted 0 1)
-    word-read s es ey = rw (order1-is, e) (record {
-      said = refl;
-      word = record {
+    -- the nearest codeword was written, s its constant
+    module _ {ys : List ℤ} (s : ℕ) (es : s ≡ constantOf (at h (p .mask)))
+        (ey : ys ≡ tabulate (length h) (λ q. pos ((s + ones (bitAnd (p .mask) q)) % 2))) where
+      nearest : Front (2 ^ m) (affine m (p .mask) (constantOf (correlation m (values w) (p .mask)))) ys
+      nearest = record {
         size = word-affine m _ _ .size;
         each = λ q l.
             rw (ey, best-length) (getD-tabulate (2 ^ m) _ (pos 0) q l
             ∙ ap pos (ap (λ (t : ℕ). (t + ones (bitAnd (p .mask) q)) % 2) (es ∙ ap constantOf (best-at (p .mask) mask-below)) ∙ sym (bit-affine m (p .mask) _ q l)));
         bits = λ q l. word-affine m _ _ .bits q;
-      };
-    })
+      }
+
+      pub word-read : Read (2 ^ m) (order1 m (values w)) ys (Accepted 0 1)
+      word-read = rw (order1-is, e) (record { said = refl; word = nearest })
+
+      -- it is the word itself
+      pub word-kept :
+          {xs : List ℤ} → length xs ≡ 2 ^ m → Bits (2 ^ m) xs → w ≡ wordOf (2 ^ m) xs
+          → natAbs (stored (at h (p .mask))) ≡ length h → SameFront (2 ^ m) xs ys
+      word-kept {xs} long bits ew whole =
+          let size-whole : size (p .mask) ≡ 2 ^ m = sym (same (p .mask) mask-below) ∙ rw read-best at whole ∙ best-length in
+          record {
+            long = ap length ey ∙ length-tabulate (length h) _ ∙ best-length ∙ sym long;
+            same = λ q l.
+                nearest .each q l
+                ∙ ap (λ (v : List ℕ). pos (bit v q)) (sym (whole-affine (b .word) (p .mask) size-whole) ∙ ew)
+                ∙ sym (bits-at bits q l);
+          }
 
   -- the sign of its correlation, as the code tests it
-  read-sign : stored (at h (p .mask)) ≡ at h (p .mask)
-  read-sign = stored-eq _ (spectrum-sized (b .word) (b .small) (b .spectrum) .sized (p .mask))
-
   pub sign-one : ltZ (stored (at h (p .mask))) (pos 0) ≡ true → constantOf (at h (p .mask)) ≡ 1
-  sign-one t = negative (at h (p .mask)) (rw read-sign at t)
+  sign-one t = negative (at h (p .mask)) (rw read-best at t)
 
   pub sign-zero : ltZ (stored (at h (p .mask))) (pos 0) ≡ false → constantOf (at h (p .mask)) ≡ 0
-  sign-zero t = not-negative (at h (p .mask)) (rw read-sign at t)
+  sign-zero t = not-negative (at h (p .mask)) (rw read-best at t)

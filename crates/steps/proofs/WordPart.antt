@@ -6,11 +6,12 @@ use native.Mathlib.Omega.{arith}
 use lib.ListN.{length, take}
 use lib.IntN.{ℤ, pos}
 use borrow.Rule.Slice.PartMut.{putMid}
-use Rattle.words.specs.Parts.{part-length, part-at, back-within}
-use Rattle.area.specs.Area.{at, Bits, wordOf}
+use Rattle.words.specs.Parts.{part-length, part-at, back-length, back-within}
+use Rattle.area.specs.Area.{at, Bits, SameFront, wordOf}
 use Rattle.area.specs.AreaLaws.{wordOf-same}
 use Rattle.rule.specs.Reading.{Outcome, accepted, refused}
-use Rattle.steps.specs.Steps.{Holds, Read}
+use Rattle.steps.specs.Steps.{Holds, Read, Kept}
+use Rattle.steps.specs.declared.Told.{Told}
 use Rattle.refusals.specs.declared.Decoded.{Decoded}
 
 -- the first n numbers; k is n as the code has it
@@ -41,3 +42,12 @@ module _ {n k : ℕ} (xs : List ℤ) (e : k ≡ n) (room : n ≤ length xs) wher
 
     pub read-back : {o : Outcome} {a : Decoded} → Read n o ys a → Read n o (putMid 0 k xs ys) a
     read-back {o} r = record { said = r .said; word = holds-back o (r .word) }
+
+    same-back : SameFront n (take k xs) ys → SameFront n xs (putMid 0 k xs ys)
+    same-back f = record {
+      long = back-length (pos 0) 0 k xs fits ys (omega arith);
+      same = λ p l. back-at p l ∙ f .same p l ∙ lent-at p l;
+    }
+
+    pub kept-back : {t : Told} → Kept n (take k xs) ys t → Kept n xs (putMid 0 k xs ys) t
+    kept-back h = record { same = λ q. same-back (h .same q) }

@@ -1,2 +1,3 @@
--- What the functions ask and promise: Steps.
+-- What the functions ask and promise: Steps. Laws: StepLaws.
 pub mod Steps
+pub mod StepLaws

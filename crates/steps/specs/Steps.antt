@@ -1,12 +1,12 @@
 -- What the steps of a reading ask and promise. Assumes nothing.
-use Prim.Native.Nat.{ℕ, suc, _+_, _-_}
+use Prim.Native.Nat.{ℕ, suc, _+_, _-_, _^_, _<_}
 use mathlib.Core.Path.{_≡_}
-use mathlib.Core.Bool.{cond}
+use mathlib.Core.Bool.{true, cond}
 use mathlib.Core.List.{List}
 use lib.Dec.{eqb}
 use lib.IntN.{ℤ, natAbs}
 use Rattle.words.specs.Word.{indicator}
-use Rattle.area.specs.Area.{at, Front}
+use Rattle.area.specs.Area.{at, Front, SameFront}
 use Rattle.refusals.specs.declared.Decoded.{Decoded}
 use Rattle.refusals.specs.declared.Decoded.the-variants.{Accepted, Refused}
 use Rattle.direction.specs.Votes.{InProjection, castVote}
@@ -15,6 +15,7 @@ use Rattle.rule.specs.Decoding.{Values, values, answerOf}
 use Rattle.rule.specs.Calls.{valuesOf}
 use Rattle.steps.specs.declared.Count.{Count}
 use Rattle.steps.specs.declared.Count.the-variants.{Done, Exhausted}
+use Rattle.steps.specs.declared.Told.{Told}
 
 -- the decoded word stands in the first n numbers, where there is one
 abbrev pub Holds : ℕ → Outcome → List ℤ → Type 0
@@ -25,6 +26,10 @@ Holds n (refused e k l) ys = Unit {0}
 pub record Read (n : ℕ) (o : Outcome) (ys : List ℤ) (a : Decoded) : Type 0 where
   pub said : valuesOf a ≡ answerOf o
   pub word : Holds n o ys
+
+-- where a reading says so, the first n numbers are after it what they were
+pub record Kept (n : ℕ) (xs ys : List ℤ) (t : Told) : Type 0 where
+  pub same : t .kept ≡ true → SameFront n xs ys
 
 -- the count that an answer brings: none where its leaves ran out
 abbrev pub countIn : Values → Count
@@ -43,3 +48,7 @@ flipOf n a xs p = indicator (flipped (natAbs (at xs (n + p))) (n - 1) a)
 abbrev pub Voter : ℕ → Decoded → List ℤ → Type 0
 Voter m (Accepted k l) xs = InProjection m xs
 Voter m (Refused why k l) xs = Unit {0}
+
+-- a direction whose reading kept its word has no votes
+pub record Unmoved (m b : ℕ) (xs : List ℤ) (t : Told) : Type 0 where
+  pub none : t .kept ≡ true → (p : ℕ) → p < 2 ^ suc m → voteOf m b xs (t .answer) p ≡ 0

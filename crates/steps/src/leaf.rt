@@ -1,8 +1,9 @@
 // Readings at orders 0 and 1.
+use crate::Told;
+use crate::changed;
 use refusals::Decoded;
 use refusals::Refusal;
 ghost use mathlib.Core.Path.{_≡_};
-ghost use mathlib.Core.Bool.{cond};
 ghost use Prim.Native.Nat.{ℕ, _≤_, _<_, _^_};
 ghost use lib.ListN.{length};
 ghost use Rattle.words.specs.Sum.{sumBelow};
@@ -10,7 +11,7 @@ ghost use Rattle.words.specs.Word.{bit};
 ghost use Rattle.area.specs.Area.{Bits, wordOf};
 ghost use Rattle.hadamard.specs.Correlation.{values};
 ghost use Rattle.rule.specs.Reading.{order0, order1};
-ghost use Rattle.steps.specs.Steps.{Read};
+ghost use Rattle.steps.specs.Steps.{Read, Kept};
 
 // The number of ones among the first n numbers, which are bits.
 fn count_ones(n: usize, area: &[i32]) -> usize
@@ -27,49 +28,52 @@ fn count_ones(n: usize, area: &[i32]) -> usize
 }
 
 // The reading at order 0.
-pub fn zero_order(m: usize, area: &mut [i32]) -> Decoded
+pub fn zero_order(m: usize, area: &mut [i32]) -> Told
     requires { ⌜ (m ≤ 10) × Bits (2 ^ m) (now area) ⌝ }
-    ensures { λ a. ⌜ Read (2 ^ m) (order0 m (values (wordOf (2 ^ m) (now (area .entry))))) (now (area .exit)) a ⌝ }
+    ensures read { λ t. ⌜ Read (2 ^ m) (order0 m (values (wordOf (2 ^ m) (now (area .entry))))) (now (area .exit)) (t .answer) ⌝ }
+    ensures kept { λ t. ⌜ Kept (2 ^ m) (now (area .entry)) (now (area .exit)) t ⌝ }
 {
     let n = words::size(m);
     let k = count_ones(n, area);
     if 2 * k == n {
-        return Decoded::Refused(Refusal::Tie, 0, 0);
+        return changed(Decoded::Refused(Refusal::Tie, 0, 0));
     }
     if 2 * k < n {
         area::fill(&mut area[0..n], 0);
-    } else {
-        area::fill(&mut area[0..n], 1);
+        return changed(Decoded::Accepted(0, 0));
     }
-    Decoded::Accepted(0, 0)
+    area::fill(&mut area[0..n], 1);
+    changed(Decoded::Accepted(0, 0))
 }
 
-// The reading at order 1 in a part of the area that holds just the word: whether one codeword is nearest.
-fn first_order_in(m: usize, part: &mut [i32]) -> bool
+// The reading at order 1 in a part of the area that holds just the word. A word whose greatest absolute correlation is n is a codeword.
+fn first_order_in(m: usize, part: &mut [i32]) -> Told
     requires { ⌜ (m ≤ 10) × (length (now part) ≡ 2 ^ m) × Bits (2 ^ m) (now part) ⌝ }
-    ensures { λ b. ⌜ Read (2 ^ m) (order1 m (values (wordOf (2 ^ m) (now (part .entry))))) (now (part .exit)) (cond b (Decoded.Accepted 0 1) (Decoded.Refused Refusal.Tie 0 1)) ⌝ }
+    ensures read { λ t. ⌜ Read (2 ^ m) (order1 m (values (wordOf (2 ^ m) (now (part .entry))))) (now (part .exit)) (t .answer) ⌝ }
+    ensures kept { λ t. ⌜ Kept (2 ^ m) (now (part .entry)) (now (part .exit)) t ⌝ }
 {
     hadamard::signs(part);
     hadamard::transform::correlate(part, m);
     let best = hadamard::best(part);
     let u = best.mask;
     if !best.alone {
-        return false;
+        return changed(Decoded::Refused(Refusal::Tie, 0, 1));
     }
+    let kept = hadamard::size(part[u]) as usize == part.len();
     let s = if part[u] < 0 { 1 } else { 0 };
     hadamard::write_affine(part, u, s);
-    true
+    Told {
+        answer: Decoded::Accepted(0, 1),
+        kept,
+    }
 }
 
 // The reading at order 1.
-pub fn first_order(m: usize, area: &mut [i32]) -> Decoded
+pub fn first_order(m: usize, area: &mut [i32]) -> Told
     requires { ⌜ (1 ≤ m) × (m ≤ 10) × Bits (2 ^ m) (now area) ⌝ }
-    ensures { λ a. ⌜ Read (2 ^ m) (order1 m (values (wordOf (2 ^ m) (now (area .entry))))) (now (area .exit)) a ⌝ }
+    ensures read { λ t. ⌜ Read (2 ^ m) (order1 m (values (wordOf (2 ^ m) (now (area .entry))))) (now (area .exit)) (t .answer) ⌝ }
+    ensures kept { λ t. ⌜ Kept (2 ^ m) (now (area .entry)) (now (area .exit)) t ⌝ }
 {
     let n = words::size(m);
-    if first_order_in(m, &mut area[0..n]) {
-        Decoded::Accepted(0, 1)
-    } else {
-        Decoded::Refused(Refusal::Tie, 0, 1)
-    }
+    first_order_in(m, &mut area[0..n])
 }

@@ -1,5 +1,6 @@
 // What a direction's answer does to the votes, and the flips that end a round.
 use crate::Count;
+use crate::Told;
 use refusals::Decoded;
 use refusals::Refusal;
 ghost use mathlib.Core.Path.{_≡_};
@@ -13,7 +14,7 @@ ghost use Rattle.words.specs.Written.{Written};
 ghost use Rattle.area.specs.Area.{at, Bits, wordOf};
 ghost use Rattle.direction.specs.Votes.{Projects, Tally};
 ghost use Rattle.rule.specs.Calls.{valuesOf};
-ghost use Rattle.steps.specs.Steps.{countIn, voteOf, flipOf, Voter};
+ghost use Rattle.steps.specs.Steps.{countIn, voteOf, flipOf, Voter, Unmoved};
 
 // The count of a direction that abstains, unless its leaves ran out.
 fn abstain(why: Refusal, leaves: usize) -> Count
@@ -26,16 +27,21 @@ fn abstain(why: Refusal, leaves: usize) -> Count
     }
 }
 
-// Direction b's votes after its reading, and its leaf count.
-pub fn cast(m: usize, b: usize, answer: Decoded, area: &mut [i32]) -> Count
+// Direction b's votes after its reading, and its leaf count. A word kept as it was gives no votes.
+pub fn cast(m: usize, b: usize, told: Told, area: &mut [i32]) -> Count
     requires { ⌜ Projects m b (now area) ⌝ }
     requires { ⌜ Tally (2 ^ suc m) b (now area) ⌝ }
-    requires { ⌜ Voter m answer (now area) ⌝ }
-    ensures counted { λ r. ⌜ r ≡ countIn (valuesOf answer) ⌝ }
-    ensures voted { λ r. ⌜ Written (pos 0) (2 ^ suc m) (2 ^ suc m) (λ p. at (now (area .entry)) (2 ^ suc m + p) +ℤ pos (voteOf m b (now (area .entry)) answer p)) (now (area .entry)) (now (area .exit)) ⌝ }
+    requires { ⌜ Voter m (told .answer) (now area) ⌝ }
+    requires { ⌜ Unmoved m b (now area) told ⌝ }
+    ensures counted { λ r. ⌜ r ≡ countIn (valuesOf (told .answer)) ⌝ }
+    ensures voted { λ r. ⌜ Written (pos 0) (2 ^ suc m) (2 ^ suc m) (λ p. at (now (area .entry)) (2 ^ suc m + p) +ℤ pos (voteOf m b (now (area .entry)) (told .answer) p)) (now (area .entry)) (now (area .exit)) ⌝ }
 {
+    let answer = told.answer;
     match answer {
         Decoded::Accepted(_, leaves) => {
+            if told.kept {
+                return Count::Done(leaves);
+            }
             direction::add_votes(m, b, area);
             Count::Done(leaves)
         }

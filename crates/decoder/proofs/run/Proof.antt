@@ -20,7 +20,7 @@ deliver-requires c κs =
     (record {
       loads = record { runs = l .before .before .before .before .pre; loaded = l .load .ensures };
       same = r .reading .kept .1 .1 .1 .1 .0;
-      read = r .reading .ensures;
+      read = r .reading .ensures .0;
     })
 
 fill-requires : tie.Need-fill-requires
@@ -41,7 +41,7 @@ returns c =
     (record {
       loads = record { runs = l .before .before .before .before .pre; loaded = l .load .ensures };
       same = r .reading .kept .1 .1 .1 .1 .0;
-      read = r .reading .ensures;
+      read = r .reading .ensures .0;
     })
     (v .deliver .ensures) (c .before .fill .ensures)
 

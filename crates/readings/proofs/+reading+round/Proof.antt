@@ -14,10 +14,12 @@ use Rattle.area.proofs.fill.Reads as fill-reads
 use Rattle.direction.proofs.project.Reads as project-reads
 use Rattle.steps.proofs.leaf.first_order.Reads as first-order-reads
 use Rattle.steps.proofs.leaf.zero_order.Reads as zero-order-reads
+use Rattle.steps.proofs.changed.Reads as changed-reads
 use Rattle.steps.proofs.vote.cast.Reads as cast-reads
 use Rattle.steps.proofs.vote.flip.Reads as flip-reads
+use Rattle.steps.specs.StepLaws.{changed-tells}
 use Rattle.readings.proofs.Directions.{Round, Poll, Zeroed, Stage, Lent, Answered, Cast, From, round-of, start-long, start-from, start-poll, stage-projects, lent-ready, answered-cast, cast-front, cast-long, cast-over, cast-few, cast-more, poll-done, poll-spent}
-use Rattle.readings.proofs.Turns.{Series, Turn, Made, Flips, series, turn-first, turn-last, turn-exhausted, ready-round, made-few, made-flips, flips-bits, flips-again, flips-settled, read-zero, read-one, read-none}
+use Rattle.readings.proofs.Turns.{Series, Turn, Made, Flips, series, turn-first, turn-last, turn-exhausted, ready-round, made-few, made-flips, flips-bits, flips-again, flips-settled, flips-kept, read-zero, read-one, read-none}
 use Rattle.readings.proofs.settle.Reads as settle-reads
 use Rattle.readings.proofs.reading.Reads as reading
 use Rattle.readings.proofs.reading.Kinds as reading-kinds
@@ -52,6 +54,8 @@ abbrev reading-given : ℕ → reading-lts.Claims
 reading-given t = (
   zero-order-reads.Asked,
   zero-order-reads.Learnt,
+  changed-reads.Asked,
+  changed-reads.Learnt,
   first-order-reads.Asked,
   first-order-reads.Learnt,
   size-reads.Asked,
@@ -156,10 +160,14 @@ module _ (t : ℕ) where
   reading-same-length c = search needs
 
   reading-returns : Reading t reading-lts.Need-returns
-  reading-returns c = read-zero _ _ _ _ _ _ (c .before .before .before .if1 .taken) (c .before .zero-order .ensures)
+  reading-returns c = let z = c .before .zero-order .ensures in
+      (read-zero _ _ _ _ _ _ (c .before .before .before .if1 .taken) (z .0), z .1)
+
+  reading-changed-requires : Reading t reading-lts.Need-changed-requires
+  reading-changed-requires c κs = search needs
 
   reading-returns-2 : Reading t reading-lts.Need-returns-2
-  reading-returns-2 c = read-none _ _ _ _ _ _ (c .before .if2 .taken) (c .if3 .taken)
+  reading-returns-2 c = changed-tells (c .changed .ensures) (read-none _ _ _ _ _ _ (c .before .before .if2 .taken) (c .before .if3 .taken))
 
   reading-first-order-requires : Reading t reading-lts.Need-first-order-requires
   reading-first-order-requires c κs = let s = c .before .before .before .before in
@@ -169,7 +177,8 @@ module _ (t : ℕ) where
   reading-same-length-2 c = search needs
 
   reading-returns-3 : Reading t reading-lts.Need-returns-3
-  reading-returns-3 c = read-one _ _ _ _ _ _ (c .before .before .before .before .if2 .taken) (c .before .before .before .if3 .left) (c .before .first-order .ensures)
+  reading-returns-3 c = let z = c .before .first-order .ensures in
+      (read-one _ _ _ _ _ _ (c .before .before .before .before .if2 .taken) (c .before .before .before .if3 .left) (z .0), z .1)
 
   reading-size-requires : Reading t reading-lts.Need-size-requires
   reading-size-requires c κs = search needs
@@ -197,12 +206,17 @@ module _ (t : ℕ) where
   reading-enum-told : Reading t reading-lts.Need-enum-told
   reading-enum-told c = search needs
 
+  reading-changed-requires-2 : Reading t reading-lts.Need-changed-requires-2
+  reading-changed-requires-2 c κs = search needs
+
   reading-same-length-3 : Reading t reading-lts.Need-same-length-3
   reading-same-length-3 c = search needs
 
   reading-returns-4 : Reading t reading-lts.Need-returns-4
-  reading-returns-4 c = let l = c .before .before .before .before .before .before in
-      turn-exhausted (l .loop .inv) (c .before .before .before .before .before .loop-test .taken) (c .before .before .before .round .ensures) (c .enum-told .given .1)
+  reading-returns-4 c = let e = c .before in
+      let r = e .before .before .before in
+      let l = r .before .before .before in
+      changed-tells (c .changed2 .ensures) (turn-exhausted (l .loop .inv) (r .before .before .loop-test .taken) (r .round .ensures) (e .enum-told .given .1))
 
   reading-enum-known-leaves : Reading t reading-lts.Need-enum-known-leaves
   reading-enum-known-leaves c = search needs
@@ -229,7 +243,9 @@ module _ (t : ℕ) where
 
   reading-returns-5 : Reading t reading-lts.Need-returns-5
   reading-returns-5 c = let s = c .before .settle .ensures in
-      flips-settled (flipped (c .before .before .before .before .before)) (c .before .before .before .if4 .taken) (s .0) (s .1)
+      let f = flipped (c .before .before .before .before .before) in
+      let e = c .before .before .before .if4 .taken in
+      (flips-settled f e (s .0) (s .1 .0), record { same = λ q. flips-kept f e (s .1 .1 q) (s .1 .0) })
 
   reading-loop-less : Reading t reading-lts.Need-loop-less
   reading-loop-less c = search needs
@@ -237,11 +253,14 @@ module _ (t : ℕ) where
   reading-loop-again : Reading t reading-lts.Need-loop-again
   reading-loop-again c = flips-again (flipped (c .before .before)) (c .if4 .left)
 
+  reading-changed-requires-3 : Reading t reading-lts.Need-changed-requires-3
+  reading-changed-requires-3 c κs = search needs
+
   reading-same-length-5 : Reading t reading-lts.Need-same-length-5
   reading-same-length-5 c = search needs
 
   reading-returns-6 : Reading t reading-lts.Need-returns-6
-  reading-returns-6 c = turn-last (c .before .loop .inv) (c .loop-test .left)
+  reading-returns-6 c = changed-tells (c .changed3 .ensures) (turn-last (c .before .before .loop .inv) (c .before .loop-test .left))
 
   -- ---- `round`
 
@@ -321,7 +340,7 @@ module _ (t : ℕ) where
   answered : (c : Rounding t round-lts.After-area3)
       → Answered (round-at-of (first (turn3 c))) (turn3 c .before .loop .area) (c .before .before .before .before .project .last .1 .1 .0) (c .before .reading .last .1 .1 .1 .1 .0)
       (turn3 c .before .loop .i) (turn3 c .before .loop .used) (2 * half (first (turn3 c))) (c .before .reading .result)
-  answered c = record { lent = lent (c .before .before .before); same = c .before .reading .kept .1 .1 .1 .1 .0; read = c .before .reading .ensures }
+  answered c = record { lent = lent (c .before .before .before); same = c .before .reading .kept .1 .1 .1 .1 .0; read = c .before .reading .ensures .0; kept = c .before .reading .ensures .1 }
 
   abbrev turn4 : Rounding t round-lts.After-area4 → Rounding t round-lts.In-loop
   turn4 c = turn3 (c .before .before .before)
@@ -433,6 +452,7 @@ pub +reading+round-spec : {M : Type 1} → statement M
     (reading-zero-order-requires t)
     (reading-same-length t)
     (reading-returns t)
+    (reading-changed-requires t)
     (reading-returns-2 t)
     (reading-first-order-requires t)
     (reading-same-length-2 t)
@@ -444,6 +464,7 @@ pub +reading+round-spec : {M : Type 1} → statement M
     (reading-sub-round-3 t)
     (reading-round-requires t)
     (reading-enum-told t)
+    (reading-changed-requires-2 t)
     (reading-same-length-3 t)
     (reading-returns-4 t)
     (reading-enum-known-leaves t)
@@ -455,6 +476,7 @@ pub +reading+round-spec : {M : Type 1} → statement M
     (reading-returns-5 t)
     (reading-loop-less t)
     (reading-loop-again t)
+    (reading-changed-requires-3 t)
     (reading-same-length-5 t)
     (reading-returns-6 t))
     (λ t. round-lts.spec (round-given t) (round-at t) round.Post round-Inv round-μ

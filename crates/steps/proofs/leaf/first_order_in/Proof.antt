@@ -1,6 +1,6 @@
 -- `steps::leaf::first_order_in` meets its contract. Assumes nothing.
 use Prim.Native.Nat.{ℕ, _^_, _<_}
-use mathlib.Core.Path.{_≡_, sym, ap, _∙_, subst}
+use mathlib.Core.Path.{_≡_, refl, sym, ap, _∙_, subst}
 use mathlib.Core.Logic.{⊎-elim}
 use native.Mathlib.Omega.{arith}
 use lib.IntN.{pos, natAbs}
@@ -9,7 +9,7 @@ use lib.Pow.{pow-mono}
 use mir.Syntax.{w32}
 use mir.Val.{toZ}
 use borrow.Author.Needs.{needs}
-use borrow.Author.Tests.{not-true, not-false}
+use borrow.Author.Tests.{eqb-true, not-true, not-false}
 use Rattle.words.specs.Sum.{tabulate}
 use Rattle.words.specs.Word.{IsWord}
 use Rattle.area.specs.Area.{at, Bits, wordOf}
@@ -17,7 +17,8 @@ use Rattle.area.specs.AreaLaws.{is-bit}
 use Rattle.area.specs.Numbers.{byte-number}
 use Rattle.hadamard.specs.Correlation.{values, correlation, constantOf}
 use Rattle.area.specs.AreaLaws.{wordOf-word}
-use Rattle.steps.proofs.OrderOne.{values-summable, correlated, spectrum-sized, Best, best-length, tie-read, mask-below, word-read, sign-one, sign-zero}
+use Rattle.steps.specs.StepLaws.{changed-tells}
+use Rattle.steps.proofs.OrderOne.{values-summable, correlated, spectrum-sized, Best, best-length, tie-read, mask-below, read-small, word-read, word-kept, sign-one, sign-zero}
 use Rattle.steps.proofs.leaf.first_order_in.Statement.{statement}
 use Rattle.steps.proofs.leaf.first_order_in.Tie as tie
 
@@ -50,10 +51,19 @@ below c =
     let b = best-is (c .before .before) in
     omega (arith, mask-below b (not-false _ (c .if1 .left)), best-length b)
 
-constant-is : (c : tie.Joined2) → let b = c .before .before .before .before in
+below-small : (c : tie.Else1) → c .before .before .best .result .mask < 1024
+below-small c =
+    let b = best-is (c .before .before) in
+    omega (arith, mask-below b (not-false _ (c .if1 .left)), pow-mono {j = 10} (b .small))
+
+-- from the constant back to where one mask is best
+abbrev lone : tie.Joined2 → tie.Else1
+lone c = c .before .before .before .before
+
+constant-is : (c : tie.Joined2) → let b = lone c .before .before in
     c .if2 .s ≡ constantOf (at (b .before .before .before .correlate .last .0) (b .best .result .mask))
 constant-is c =
-    let b = best-is (c .before .before .before .before) in
+    let b = best-is (lone c .before .before) in
     ⊎-elim (λ w. w .1 ∙ sym (sign-one b (w .0 .taken))) (λ w. w .1 ∙ sym (sign-zero b (w .0 .left))) (c .if2 .came)
 
 constant-lt : (c : tie.Joined2) → c .if2 .s < 2
@@ -76,23 +86,38 @@ best-requires c κs =
     let s = k .before .before .before .before .before in
     spectrum-sized (word s) (s .pre .0) (spectrum-is k)
 
+changed-requires : tie.Need-changed-requires
+changed-requires c κs = search needs
+
 same-length : tie.Need-same-length
 same-length c = search needs
 
 returns : tie.Need-returns
-returns c = tie-read (best-is (c .before .before)) (not-true _ (c .if1 .taken))
+returns c =
+    let t = c .before in
+    changed-tells (c .changed .ensures) (tie-read (best-is (t .before .before)) (not-true _ (t .if1 .taken)))
+
+mul-size : tie.Need-mul-size
+mul-size c = record { fits = omega (arith, below-small c) }
+
+slice-copy-out-size : tie.Need-slice-copy-out-size
+slice-copy-out-size c = below c
+
+size-requires : tie.Need-size-requires
+size-requires c κs = read-small (best-is (c .before .before .before))
+
+cast-kept : tie.Need-cast-kept
+cast-kept c = record { fits = omega (arith, c .size .ensures, read-small (best-is (c .before .before .before .before))) }
 
 mul-if2 : tie.Need-mul-if2
-mul-if2 c =
-    let b = best-is (c .before .before) in
-    record { fits = omega (arith, mask-below b (not-false _ (c .if1 .left)), pow-mono {j = 10} (b .small)) }
+mul-if2 c = record { fits = omega (arith, below-small (c .before .before)) }
 
 slice-copy-out-if2 : tie.Need-slice-copy-out-if2
-slice-copy-out-if2 c = below c
+slice-copy-out-if2 c = below (c .before .before)
 
 write-affine-requires : tie.Need-write-affine-requires
 write-affine-requires c κs =
-    let e = c .before .before .before in
+    let e = lone (c .before) in
     let b = best-is (e .before .before) in
     let length-is = best-length b in
     let small = pow-mono {j = 10} (b .small) in
@@ -104,8 +129,15 @@ same-length-2 c = search needs
 returns-2 : tie.Need-returns-2
 returns-2 c =
     let j = c .before .before .before in
-    let e = j .before .before in
-    word-read (best-is (e .before .before)) (not-false _ (e .if1 .left)) _ (ap natAbs (constant-read j) ∙ constant-is j) (c .before .write-affine .ensures)
+    let e = lone j in
+    let b = best-is (e .before .before) in
+    let a = e .before .before .before .before .before .before .before .before .before .before in
+    let alone = not-false _ (e .if1 .left) in
+    let s = ap natAbs (constant-read j) ∙ constant-is j in
+    let z = j .before .before in (
+      word-read b alone _ s (c .before .write-affine .ensures),
+      record { same = λ q. word-kept b alone _ s (c .before .write-affine .ensures) (a .pre .1) (a .pre .2) refl (sym (z .size .ensures) ∙ eqb-true _ _ q) },
+    )
 
 pub first-order-in-spec : {M : Type 1} → statement M
 first-order-in-spec =
@@ -114,8 +146,13 @@ first-order-in-spec =
     signs-requires
     correlate-requires
     best-requires
+    changed-requires
     same-length
     returns
+    mul-size
+    slice-copy-out-size
+    size-requires
+    cast-kept
     mul-if2
     slice-copy-out-if2
     write-affine-requires

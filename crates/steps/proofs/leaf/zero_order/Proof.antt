@@ -8,10 +8,14 @@ use Rattle.words.specs.Sum.{sumBelow}
 use Rattle.words.specs.Word.{bit}
 use Rattle.area.specs.Area.{Bits, wordOf}
 use Rattle.area.specs.AreaLaws.{wordOf-word}
+use Rattle.steps.specs.StepLaws.{changed-tells}
 use Rattle.steps.proofs.WordPart.{lent-size, read-back}
 use Rattle.steps.proofs.OrderZero.{zero-tie, zero-zeros, zero-ones}
 use Rattle.steps.proofs.leaf.zero_order.Statement.{statement}
 use Rattle.steps.proofs.leaf.zero_order.Tie as tie
+
+size-is : (c : tie.After-size) → c .size .result - 0 ≡ 2 ^ c .before .args .m
+size-is c = omega (arith, c .size .ensures)
 
 counted : (c : tie.After-count-ones) → let a = c .before .before .before .args in
     c .count-ones .result ≡ sumBelow (2 ^ a .m) (bit (wordOf (2 ^ a .m) (a .area .now)))
@@ -29,13 +33,18 @@ count-ones-requires c κs =
 mul-if1 : tie.Need-mul-if1
 mul-if1 c = search needs
 
+changed-requires : tie.Need-changed-requires
+changed-requires c κs = search needs
+
 same-length : tie.Need-same-length
 same-length c = search needs
 
 returns : tie.Need-returns
 returns c =
-    let s = c .before .before .before .before in
-    zero-tie (wordOf-word {m = s .args .m} (s .pre .1)) (counted (c .before)) (c .if1 .taken ∙ c .before .before .before .size .ensures)
+    let t = c .before in
+    let n = t .before .before .before in
+    changed-tells (c .changed .ensures)
+    (zero-tie (wordOf-word {m = n .before .args .m} (n .before .pre .1)) (counted (t .before)) (t .if1 .taken ∙ n .size .ensures))
 
 mul-if2 : tie.Need-mul-if2
 mul-if2 c = search needs
@@ -52,6 +61,22 @@ part-fill-end c = search needs
 fill-requires : tie.Need-fill-requires
 fill-requires c κs = search needs
 
+changed-requires-2 : tie.Need-changed-requires-2
+changed-requires-2 c κs = search needs
+
+same-length-2 : tie.Need-same-length-2
+same-length-2 c = search needs
+
+returns-2 : tie.Need-returns-2
+returns-2 c =
+    let f = c .before .before in
+    let n = f .before .before .before .before .before .before in
+    let s = n .before in
+    let size = lent-size (s .args .area .now) (size-is n) (s .pre .1 .room) in
+    changed-tells (c .changed2 .ensures)
+    (read-back (s .args .area .now) (size-is n) (s .pre .1 .room) _ (f .fill .kept .0 ∙ size)
+    (zero-zeros (wordOf-word {m = s .args .m} (s .pre .1)) (counted (f .before .before .before .before)) size (omega arith) (f .fill .ensures)))
+
 sub-fill-2 : tie.Need-sub-fill-2
 sub-fill-2 c = search needs
 
@@ -64,29 +89,21 @@ part-fill-end-2 c = search needs
 fill-requires-2 : tie.Need-fill-requires-2
 fill-requires-2 c κs = search needs
 
-same-length-2 : tie.Need-same-length-2
-same-length-2 c = search needs
-
-returns-2 : tie.Need-returns-2
-returns-2 c =
-    let s = c .before .before .before .before .before .before .before .before in
-    let n : ℕ = c .before .before .before .before .before .before .before .size .result - 0 in
-    let e : n ≡ 2 ^ s .args .m = omega (arith, c .before .before .before .before .before .before .before .size .ensures) in
-    let size = lent-size (s .args .area .now) e (s .pre .1 .room) in
-    read-back (s .args .area .now) e (s .pre .1 .room) _ (c .before .fill .kept .0 ∙ size)
-    (zero-zeros (wordOf-word {m = s .args .m} (s .pre .1)) (counted (c .before .before .before .before .before)) size (omega arith) (c .before .fill .ensures))
+changed-requires-3 : tie.Need-changed-requires-3
+changed-requires-3 c κs = search needs
 
 same-length-3 : tie.Need-same-length-3
 same-length-3 c = search needs
 
 returns-3 : tie.Need-returns-3
 returns-3 c =
-    let s = c .before .before .before .before .before .before .before .before in
-    let n : ℕ = c .before .before .before .before .before .before .before .size .result - 0 in
-    let e : n ≡ 2 ^ s .args .m = omega (arith, c .before .before .before .before .before .before .before .size .ensures) in
-    let size = lent-size (s .args .area .now) e (s .pre .1 .room) in
-    read-back (s .args .area .now) e (s .pre .1 .room) _ (c .before .fill2 .kept .0 ∙ size)
-    (zero-ones (wordOf-word {m = s .args .m} (s .pre .1)) (counted (c .before .before .before .before .before)) size (omega arith) (c .before .fill2 .ensures))
+    let f = c .before .before in
+    let n = f .before .before .before .before .before .before in
+    let s = n .before in
+    let size = lent-size (s .args .area .now) (size-is n) (s .pre .1 .room) in
+    changed-tells (c .changed3 .ensures)
+    (read-back (s .args .area .now) (size-is n) (s .pre .1 .room) _ (f .fill2 .kept .0 ∙ size)
+    (zero-ones (wordOf-word {m = s .args .m} (s .pre .1)) (counted (f .before .before .before .before)) size (omega arith) (f .fill2 .ensures)))
 
 pub zero-order-spec : {M : Type 1} → statement M
 zero-order-spec =
@@ -95,6 +112,7 @@ zero-order-spec =
     size-requires
     count-ones-requires
     mul-if1
+    changed-requires
     same-length
     returns
     mul-if2
@@ -102,11 +120,13 @@ zero-order-spec =
     part-fill-start
     part-fill-end
     fill-requires
+    changed-requires-2
+    same-length-2
+    returns-2
     sub-fill-2
     part-fill-start-2
     part-fill-end-2
     fill-requires-2
-    same-length-2
-    returns-2
+    changed-requires-3
     same-length-3
     returns-3)
