@@ -1,5 +1,5 @@
 // Projections and votes by blocks of 4 cosets, for directions from 4 on: the low digits l of the direction, b = w + l, only exchange
-// the places of a block.
+// the places of a block. The loops test q != n: the compiler makes a shift in every turn of q < n where n is a power of 2.
 ghost use mathlib.Core.Path.{_≡_};
 ghost use Prim.Native.Nat.{ℕ, suc, _+_, _*_, _^_, _≤_, _<_};
 ghost use lib.ListN.{length};
@@ -45,7 +45,7 @@ pub fn project_fours(m: usize, h: usize, w: usize, l: usize, area: &mut [i32])
 {
     let n = words::size(m);
     let mut q = 0;
-    while q < n {
+    while q != n {
         let p = crate::insert_zero(h, q);
         project_four(area, 4 * n + q, p, p ^ w, l);
         q += 4;
@@ -105,7 +105,7 @@ pub fn vote_fours(m: usize, h: usize, w: usize, l: usize, area: &mut [i32])
 {
     let n = words::size(m);
     let mut q = 0;
-    while q < n {
+    while q != n {
         let p = crate::insert_zero(h, q);
         vote_four(area, n, q, p, p ^ w, l);
         q += 4;

@@ -1,4 +1,5 @@
 // Directions: positions and coset numbers, projections, and votes.
+// The loops test q != n: the compiler makes a shift in every turn of q < n where n is a power of 2.
 use fours::project_fours;
 use fours::vote_fours;
 ghost use mathlib.Core.Path.{_≡_};
@@ -37,9 +38,11 @@ fn project_each(m: usize, b: usize, area: &mut [i32])
 {
     let n = words::size(m);
     let h = highest_bit(b);
-    for q in 0..n {
+    let mut q = 0;
+    while q != n {
         let p = insert_zero(h, q);
         area[4 * n + q] = area[p] ^ area[p ^ b];
+        q += 1;
     }
 }
 
@@ -72,11 +75,13 @@ fn vote_each(m: usize, b: usize, area: &mut [i32])
 {
     let n = words::size(m);
     let h = highest_bit(b);
-    for q in 0..n {
+    let mut q = 0;
+    while q != n {
         let p = insert_zero(h, q);
         let vote = area[4 * n + q] ^ (area[p] ^ area[p ^ b]);
         area[2 * n + p] += vote;
         area[2 * n + (p ^ b)] += vote;
+        q += 1;
     }
 }
 
