@@ -84,7 +84,7 @@ fn round(m: usize, r: usize, rounds: usize, left: usize, area: &mut [i32]) -> Co
     area::fill(&mut area[n..rest], 0);
     let mut used = 0;
     for i in 0..n - 1 {
-        direction::project(m, i + 1, area);
+        projections::project(m, i + 1, area);
         let told = reading(m, r, rounds, left - used, &mut area[rest..]);
         match cast(m, i + 1, told, area) {
             Count::Exhausted => {

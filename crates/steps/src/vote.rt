@@ -12,7 +12,8 @@ ghost use Rattle.words.specs.Sum.{allBelow};
 ghost use Rattle.words.specs.Word.{bit};
 ghost use Rattle.words.specs.Written.{Written};
 ghost use Rattle.area.specs.Area.{at, Bits, wordOf};
-ghost use Rattle.direction.specs.Votes.{Projects, Tally};
+ghost use Rattle.projections.specs.Projects.{Projects};
+ghost use Rattle.votes.specs.Votes.{Tally};
 ghost use Rattle.rule.specs.Calls.{valuesOf};
 ghost use Rattle.steps.specs.Steps.{countIn, voteOf, flipOf, Voter, Unmoved};
 
@@ -42,7 +43,7 @@ pub fn cast(m: usize, b: usize, told: Told, area: &mut [i32]) -> Count
             if told.kept {
                 return Count::Done(leaves);
             }
-            direction::add_votes(m, b, area);
+            votes::add_votes(m, b, area);
             Count::Done(leaves)
         }
         Decoded::Refused(why, _, leaves) => abstain(why, leaves),

@@ -1,8 +1,8 @@
 -- A list of which a run of entries was written: what every loop that fills a slice promises. Assumes nothing.
-use Prim.Native.Nat.{ℕ, zero, suc, _+_, _≤_, _<_}
+use Prim.Native.Nat.{ℕ, zero, suc, _+_, _-_, _≤_, _<_}
 use native.Mathlib.Nat.{add-zero, le-of-suc-le-suc, eq-or-lt-of-le}
 use native.Mathlib.Numerals.{add-one}
-use native.Mathlib.Decide.{ℕ-discrete}
+use native.Mathlib.Decide.{ℕ-discrete, decLt}
 use native.Mathlib.Omega.{arith}
 use mathlib.Core.Path.{_≡_, refl, sym, ap, _∙_, subst}
 use mathlib.Core.Logic.{⊎-elim}
@@ -34,6 +34,21 @@ module _ {A : Type 0} {d : A} {a n : ℕ} {f : ℕ → A} {xs ys : List A} (w : 
     ];
     below = λ p lp. getD-set-other ys j p v d (λ q. omega arith) ∙ w .below p lp;
     above = λ p lp. getD-set-other ys j p v d (λ q. omega arith) ∙ w .above p (omega arith);
+  }
+
+  -- a turn writes the k entries from n on
+  pub written-run : {j k : ℕ} {g : ℕ → A} {zs : List A} → Written d j k g ys zs → j ≡ a + n → ((q : ℕ) → q < k → g q ≡ f (n + q)) → Written d a (n + k) f xs zs
+  written-run {j} {k} {g} {zs} v e same = record {
+    long = v .long ∙ w .long;
+    within = λ p l. elim (decLt p n) [
+      | yes h ↦ v .below (a + p) (omega arith) ∙ w .within p h
+      | no h ↦
+          let q : n + (p - n) ≡ p = omega arith in
+          let at : j + (p - n) ≡ a + p = omega arith in
+          subst (λ (i : ℕ). getD zs i d ≡ f p) at (v .within (p - n) (omega arith) ∙ same (p - n) (omega arith) ∙ ap f q)
+    ];
+    below = λ p l. v .below p (omega arith) ∙ w .below p l;
+    above = λ p l. v .above p (omega arith) ∙ w .above p (omega arith);
   }
 
   -- a turn leaves entry n, which is already right

@@ -11,7 +11,7 @@ use borrow.Fn.PlainCycle.{Measures, is, falls, and}
 use borrow.Rule.Slice.PartMut.{putMid}
 use Rattle.words.proofs.size.Reads as size-reads
 use Rattle.area.proofs.fill.Reads as fill-reads
-use Rattle.direction.proofs.project.Reads as project-reads
+use Rattle.projections.proofs.project.Reads as project-reads
 use Rattle.steps.proofs.leaf.first_order.Reads as first-order-reads
 use Rattle.steps.proofs.leaf.zero_order.Reads as zero-order-reads
 use Rattle.steps.proofs.changed.Reads as changed-reads

@@ -1,0 +1,5 @@
+-- What the proofs of the loops share.
+pub mod Turns
+pub mod FourParts
+pub mod FourTurns
+pub mod FourCalls

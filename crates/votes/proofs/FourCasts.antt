@@ -1,0 +1,124 @@
+-- The votes of a block of 4 cosets, added at both members. Assumes nothing.
+use Prim.Native.Nat.{ℕ, _+_, _-_, _*_, _<_, _≤_}
+use mathlib.Core.Path.{_≡_, sym, ap, ap₂, _∙_}
+use mathlib.Core.List.{List}
+use mathlib.Core.Logic.{_≢_, ⊎-elim}
+use native.Mathlib.Decide.{decLt, decLe}
+use native.Mathlib.Nat.{zero-add}
+use native.Mathlib.Omega.{arith}
+use lib.Bits.{bitXor, xor-zero-r}
+use lib.ListN.{length}
+use lib.IntN.{ℤ, pos, _+ℤ_}
+use borrow.Rule.Slice.PartMut.{putMid}
+use Rattle.words.specs.Written.{Written, written-none, written-to}
+use Rattle.words.specs.Parts.{written-part}
+use Rattle.area.specs.Area.{at, IsBit}
+use Rattle.area.specs.AreaLaws.{bit-back}
+use Rattle.area.specs.Numbers.{stored, Half}
+use Rattle.projections.specs.Fours.{bitSum, pairSum}
+use Rattle.votes.specs.FourVotes.{addend, Addends, FourVotes, fourVote, FourVoted}
+use Rattle.projections.specs.FourLaws.{by-four, four-lt}
+use Rattle.projections.proofs.FourParts.{four, four-length, four-at, four-sum, sum-bit}
+
+-- a block of 4 entries to which the numbers v were added, in the order j XOR l, has come back
+part-added : (r l : ℕ) (xs part : List ℤ) (v : ℕ → ℤ) → r + 4 ≤ length xs → Written (pos 0) 0 4 (λ j. at (four r xs) j +ℤ v (bitXor j l)) (four r xs) part
+    → Written (pos 0) r 4 (λ j. at xs (r + j) +ℤ v (bitXor j l)) xs (putMid r (r + 4 - r) xs part)
+part-added r l xs part v room w =
+    written-to
+    (written-part (written-none (pos 0) r (λ j. at xs (r + j) +ℤ v (bitXor j l)) xs) r (r + 4 - r) part (omega arith) (omega arith)
+    (w .long ∙ four-length r xs room ∙ omega arith)
+    (λ j lj.
+    ap (at part) {x = j} {y = 0 + j} (omega arith) ∙ w .within j (omega arith) ∙ ap (λ (x : ℤ). x +ℤ v (bitXor j l)) (four-at r xs room j (omega arith))
+    ∙ ap (λ (k : ℕ). at xs (r + k) +ℤ v (bitXor k l)) (sym (zero-add j))))
+    4 (omega arith)
+
+-- entries outside a written run
+outside : {a n : ℕ} {f : ℕ → ℤ} {xs ys : List ℤ} → Written (pos 0) a n f xs ys → (j : ℕ) → ((i : ℕ) → i < n → j ≢ a + i) → at ys j ≡ at xs j
+outside {a} {n} w j k = elim (decLt j a) [
+  | yes l ↦ w .below j l
+  | no l ↦ elim (decLe (a + n) j) [
+    | yes g ↦ w .above j g
+    | no g ↦ absurd (k (j - a) (omega arith) (omega arith))
+  ]
+]
+
+-- what the code has for the vote of coset q + i
+abbrev pub Vote : ℕ → ℕ → ℕ → ℕ → ℕ → List ℤ → ℕ → ℤ → Type 0
+Vote n q p z l xs i x = x ≡ bitSum (at (four (4 * n + q) xs) i) (bitSum (at (four p xs) i) (at (four z xs) (bitXor i l)))
+
+-- the four votes
+pub record Casts (n q p z l : ℕ) (xs : List ℤ) (a b c d : ℤ) : Type 0 where
+  pub asks : FourVotes n q p z l xs
+  pub votes : (i : ℕ) → i < 4 → addend a b c d i ≡ fourVote n q p z l xs i
+
+module _ {n q p z l : ℕ} {xs : List ℤ} (asks : FourVotes n q p z l xs) where
+  pub decoded-lt : (i : ℕ) → i < 4 → (i < length (four (4 * n + q) xs)) × IsBit (at (four (4 * n + q) xs) i)
+  decoded-lt i hi = (
+    omega (arith, four-length (4 * n + q) xs (asks .bits .room)),
+    rw (four-at (4 * n + q) xs (asks .bits .room) i hi) (asks .decoded i hi),
+  )
+
+  vote-is : (i : ℕ) → i < 4 → {x : ℤ} → Vote n q p z l xs i x → stored x ≡ fourVote n q p z l xs i
+  vote-is i hi {x} e =
+      let v : x ≡ fourVote n q p z l xs i = e ∙ ap₂ bitSum (four-at (4 * n + q) xs (asks .bits .room) i hi) (four-sum (asks .bits) i hi) in
+      rw v (bit-back (sum-bit (at xs (4 * n + q + i)) (pairSum p z l xs i)))
+
+  pub casts : {a b c d : ℤ} → Vote n q p z l xs 0 a → Vote n q p z l xs 1 b → Vote n q p z l xs 2 c → Vote n q p z l xs 3 d
+      → Casts n q p z l xs (stored a) (stored b) (stored c) (stored d)
+  casts {a} {b} {c} {d} ea eb ec ed = record {
+    asks = asks;
+    votes = by-four (λ (i : ℕ). addend (stored a) (stored b) (stored c) (stored d) i ≡ fourVote n q p z l xs i)
+        (vote-is 0 (omega arith) ea) (vote-is 1 (omega arith) eb) (vote-is 2 (omega arith) ec) (vote-is 3 (omega arith) ed);
+  }
+
+module _ {n q p z l : ℕ} {xs : List ℤ} {a b c d : ℤ} (t : Casts n q p z l xs a b c d) where
+  vote-half : (i : ℕ) → i < 4 → Half (addend a b c d i)
+  vote-half i hi = rw (t .votes i hi) (record { half = omega arith })
+
+  pub first-adds : Addends 0 a b c d (four (2 * n + p) xs)
+  first-adds = record {
+    size = four-length (2 * n + p) xs (t .asks .room-one);
+    low = omega arith;
+    few = λ i hi. rw (four-at (2 * n + p) xs (t .asks .room-one) i hi) (t .asks .few-one i hi);
+    each = vote-half;
+  }
+
+  module _ {part : List ℤ} (one : Written (pos 0) 0 4 (λ j. at (four (2 * n + p) xs) j +ℤ addend a b c d (bitXor j 0)) (four (2 * n + p) xs) part) where
+    abbrev between : List ℤ
+    between = putMid (2 * n + p) (2 * n + p + 4 - (2 * n + p)) xs part
+
+    first : Written (pos 0) (2 * n + p) 4 (λ j. at xs (2 * n + p + j) +ℤ addend a b c d (bitXor j 0)) xs between
+    first = part-added (2 * n + p) 0 xs part (addend a b c d) (t .asks .room-one) one
+
+    room-two : 2 * n + z + 4 ≤ length between
+    room-two = omega (arith, first .long, t .asks .room-two)
+
+    kept : (i : ℕ) → i < 4 → at between (2 * n + z + i) ≡ at xs (2 * n + z + i)
+    kept i hi =
+        ⊎-elim (λ (k : p + 4 ≤ z). first .above (2 * n + z + i) (omega arith)) (λ (k : z + 4 ≤ p). first .below (2 * n + z + i) (omega arith)) (t .asks .apart)
+
+    pub second-adds : Addends l a b c d (four (2 * n + z) between)
+    second-adds = record {
+      size = four-length (2 * n + z) between room-two;
+      low = t .asks .bits .low;
+      few = λ i hi. rw (four-at (2 * n + z) between room-two i hi, kept i hi) (t .asks .few-two i hi);
+      each = vote-half;
+    }
+
+    module _ {part′ : List ℤ} (two : Written (pos 0) 0 4 (λ j. at (four (2 * n + z) between) j +ℤ addend a b c d (bitXor j l)) (four (2 * n + z) between) part′) where
+      abbrev after : List ℤ
+      after = putMid (2 * n + z) (2 * n + z + 4 - (2 * n + z)) between part′
+
+      second : Written (pos 0) (2 * n + z) 4 (λ j. at between (2 * n + z + j) +ℤ addend a b c d (bitXor j l)) between after
+      second = part-added (2 * n + z) l between part′ (addend a b c d) room-two two
+
+      pub four-voted : FourVoted n q p z l xs after
+      four-voted = record {
+        long = second .long ∙ first .long;
+        one = λ i hi.
+            outside second (2 * n + p + i)
+            (λ j hj e. ⊎-elim (λ (k : p + 4 ≤ z). omega arith) (λ (k : z + 4 ≤ p). omega arith) (t .asks .apart))
+            ∙ first .within i hi ∙ ap (λ (x : ℤ). at xs (2 * n + p + i) +ℤ x) (ap (addend a b c d) (xor-zero-r i) ∙ t .votes i hi);
+        two = λ i hi. second .within i hi ∙ ap₂ _+ℤ_ (kept i hi) (t .votes (bitXor i l) (four-lt hi (t .asks .bits .low)));
+        others = λ j k. outside second j (λ i hi. k i hi .1) ∙ outside first j (λ i hi. k i hi .0);
+      }

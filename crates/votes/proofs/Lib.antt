@@ -1,0 +1,6 @@
+-- What the proofs of the loops share.
+pub mod VoteLoops
+pub mod FourAdds
+pub mod FourCasts
+pub mod FourLoops
+pub mod VoteCalls

@@ -1,0 +1,46 @@
+-- Votes by blocks of 4 cosets: what the functions on them ask and promise. Assumes nothing.
+use Prim.Native.Nat.{ℕ, zero, suc, _+_, _*_, _≤_, _<_}
+use mathlib.Core.Path.{_≡_}
+use mathlib.Core.Logic.{_≢_, _⊎_}
+use mathlib.Core.List.{List}
+use lib.Bits.{bitXor}
+use lib.IntN.{ℤ, _+ℤ_}
+use lib.ListN.{length}
+use Rattle.area.specs.Area.{at, IsBit}
+use Rattle.area.specs.Numbers.{Half}
+use Rattle.projections.specs.Fours.{bitSum, TwoBlocks, pairSum}
+
+-- four numbers by their index
+abbrev pub addend : ℤ → ℤ → ℤ → ℤ → ℕ → ℤ
+addend a b c d zero = a
+addend a b c d (suc zero) = b
+addend a b c d (suc (suc zero)) = c
+addend a b c d (suc (suc (suc i))) = d
+
+-- four numbers that can be added to the entries of xs, in the order i XOR l
+pub record Addends (l : ℕ) (a b c d : ℤ) (xs : List ℤ) : Type 0 where
+  pub size : length xs ≡ 4
+  pub low : l < 4
+  pub few : (i : ℕ) → i < 4 → Half (at xs i)
+  pub each : (i : ℕ) → i < 4 → Half (addend a b c d i)
+
+-- the cosets q to q + 3, with their members at p to p + 3 and z to z + 3: the decoded bits at 4 n + q, the votes at 2 n + p and 2 n + z
+pub record FourVotes (n q p z l : ℕ) (xs : List ℤ) : Type 0 where
+  pub bits : TwoBlocks (4 * n + q) p z l xs
+  pub decoded : (i : ℕ) → i < 4 → IsBit (at xs (4 * n + q + i))
+  pub apart : (p + 4 ≤ z) ⊎ (z + 4 ≤ p)
+  pub room-one : 2 * n + p + 4 ≤ length xs
+  pub room-two : 2 * n + z + 4 ≤ length xs
+  pub few-one : (i : ℕ) → i < 4 → Half (at xs (2 * n + p + i))
+  pub few-two : (i : ℕ) → i < 4 → Half (at xs (2 * n + z + i))
+
+-- the vote of coset q + i
+abbrev pub fourVote : ℕ → ℕ → ℕ → ℕ → ℕ → List ℤ → ℕ → ℤ
+fourVote n q p z l xs i = bitSum (at xs (4 * n + q + i)) (pairSum p z l xs i)
+
+-- ys is xs with the four votes at both members
+pub record FourVoted (n q p z l : ℕ) (xs ys : List ℤ) : Type 0 where
+  pub long : length ys ≡ length xs
+  pub one : (i : ℕ) → i < 4 → at ys (2 * n + p + i) ≡ at xs (2 * n + p + i) +ℤ fourVote n q p z l xs i
+  pub two : (i : ℕ) → i < 4 → at ys (2 * n + z + i) ≡ at xs (2 * n + z + i) +ℤ fourVote n q p z l xs (bitXor i l)
+  pub others : (j : ℕ) → ((i : ℕ) → i < 4 → (j ≢ 2 * n + p + i) × (j ≢ 2 * n + z + i)) → at ys j ≡ at xs j

@@ -1,0 +1,3 @@
+-- What the functions ask and promise.
+pub mod Votes
+pub mod FourVotes

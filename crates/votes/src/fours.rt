@@ -1,0 +1,73 @@
+// Votes by blocks of 4 cosets, for directions from 4 on: the low digits l of the direction, b = w + l, only exchange
+// the places of a block. The loops test q != n: the compiler makes a shift in every turn of q < n where n is a power of 2.
+ghost use mathlib.Core.Path.{_≡_};
+ghost use Prim.Native.Nat.{suc, _+_, _^_, _<_};
+ghost use lib.ListN.{length};
+ghost use lib.Bits.{bitXor};
+ghost use lib.IntN.{pos, _+ℤ_};
+ghost use Rattle.words.specs.Written.{Written};
+ghost use Rattle.area.specs.Area.{at, IsBit};
+ghost use Rattle.projections.specs.Projects.{Projects};
+ghost use Rattle.votes.specs.Votes.{Tally, InProjection, castVote};
+ghost use Rattle.projections.specs.Fours.{InFours, bitSum, BitPair};
+ghost use Rattle.votes.specs.FourVotes.{addend, Addends, FourVotes, FourVoted};
+
+// Adds v0 to v3 to the four votes at 0 XOR l to 3 XOR l.
+fn add_four(part: &mut [i32], l: usize, v0: i32, v1: i32, v2: i32, v3: i32)
+    requires { ⌜ Addends l v0 v1 v2 v3 (now part) ⌝ }
+    ensures { λ _. ⌜ Written (pos 0) 0 4 (λ j. at (now (part .entry)) j +ℤ addend v0 v1 v2 v3 (bitXor j l)) (now (part .entry)) (now (part .exit)) ⌝ }
+{
+    let a0 = part[l] + v0;
+    let a1 = part[1 ^ l] + v1;
+    let a2 = part[2 ^ l] + v2;
+    let a3 = part[3 ^ l] + v3;
+    part[l] = a0;
+    part[1 ^ l] = a1;
+    part[2 ^ l] = a2;
+    part[3 ^ l] = a3;
+}
+
+// The vote by the decoded bit i of d, on the bits i of x and i XOR l of y.
+fn vote(d: &[i32], x: &[i32], y: &[i32], i: usize, l: usize) -> i32
+    requires { ⌜ BitPair i l (now x) (now y) ⌝ }
+    requires { ⌜ (i < length (now d)) × IsBit (at (now d) i) ⌝ }
+    ensures { λ r. ⌜ r ≡ bitSum (at (now (d .entry)) i) (bitSum (at (now (x .entry)) i) (at (now (y .entry)) (bitXor i l))) ⌝ }
+{
+    d[i] ^ projections::fours::pair(x, y, i, l)
+}
+
+// Adds the votes of the cosets q to q + 3, whose members are the blocks at p and z.
+fn vote_four(area: &mut [i32], n: usize, q: usize, p: usize, z: usize, l: usize)
+    requires { ⌜ FourVotes n q p z l (now area) ⌝ }
+    ensures { λ _. ⌜ FourVoted n q p z l (now (area .entry)) (now (area .exit)) ⌝ }
+{
+    let c = 4 * n + q;
+    let d = &area[c..c + 4];
+    let x = &area[p..p + 4];
+    let y = &area[z..z + 4];
+    let v0 = vote(d, x, y, 0, l);
+    let v1 = vote(d, x, y, 1, l);
+    let v2 = vote(d, x, y, 2, l);
+    let v3 = vote(d, x, y, 3, l);
+    let r = 2 * n + p;
+    add_four(&mut area[r..r + 4], 0, v0, v1, v2, v3);
+    let s = 2 * n + z;
+    add_four(&mut area[s..s + 4], l, v0, v1, v2, v3);
+}
+
+// Adds the votes of the direction w + l.
+pub fn vote_fours(m: usize, h: usize, w: usize, l: usize, area: &mut [i32])
+    requires { ⌜ InFours h w l ⌝ }
+    requires { ⌜ Projects m (w + l) (now area) ⌝ }
+    requires { ⌜ Tally (2 ^ suc m) (w + l) (now area) ⌝ }
+    requires { ⌜ InProjection m (now area) ⌝ }
+    ensures { λ _. ⌜ Written (pos 0) (2 ^ suc m) (2 ^ suc m) (λ p. at (now (area .entry)) (2 ^ suc m + p) +ℤ pos (castVote m (w + l) (now (area .entry)) p)) (now (area .entry)) (now (area .exit)) ⌝ }
+{
+    let n = words::size(m);
+    let mut q = 0;
+    while q != n {
+        let p = direction::insert_zero(h, q);
+        vote_four(area, n, q, p, p ^ w, l);
+        q += 4;
+    }
+}
