@@ -8,7 +8,7 @@ use Rattle.words.specs.Word.{bit}
 use Rattle.words.specs.Written.{Written}
 use Rattle.area.specs.Area.{wordOf}
 use Rattle.direction.specs.Direction.{highest, project}
-use Rattle.projections.specs.Projects.{Projects}
+use Rattle.cosets.specs.Votes.{Projects}
 use Rattle.projections.specs.Fours.{InFours}
 
 abbrev Projected : ℕ → List ℤ → List ℤ → ℕ → Type 0

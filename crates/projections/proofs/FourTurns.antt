@@ -12,10 +12,10 @@ use Rattle.area.specs.Area.{at, wordOf}
 use Rattle.area.specs.AreaLaws.{bits-xor}
 use Rattle.direction.specs.Direction.{insertZero, project}
 use Rattle.direction.specs.Insert.{Top, top-le}
-use Rattle.projections.specs.Projects.{Projects}
+use Rattle.cosets.specs.Votes.{Projects}
 use Rattle.projections.specs.Fours.{InFours, TwoBlocks, pairSum}
 use Rattle.projections.specs.FourLaws.{four-lt, pow-whole, high-top, insert-four, insert-whole, partner-four}
-use Rattle.projections.proofs.Turns.{Members, members, direction-top, pair-value}
+use Rattle.cosets.proofs.Turns.{Members, members, direction-top, pair-value}
 
 -- p is the representative of coset q, the first of a block
 pub record FourTurn (m h w l : ℕ) (xs : List ℤ) (q p : ℕ) : Type 0 where

@@ -1,5 +1,4 @@
 -- What the proofs of the loops share.
-pub mod Turns
 pub mod FourParts
 pub mod FourTurns
 pub mod FourCalls

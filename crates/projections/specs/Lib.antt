@@ -1,4 +1,3 @@
--- What the functions ask and promise: Projects and Fours. The rest are laws.
-pub mod Projects
+-- What the functions on blocks ask and promise: Fours. The rest are laws.
 pub mod Fours
 pub mod FourLaws

@@ -1,5 +1,5 @@
 // Projections by blocks of 4 cosets, for directions from 4 on: the low digits l of the direction, b = w + l, only exchange
-// the places of a block. The loops test q != n: the compiler makes a shift in every turn of q < n where n is a power of 2.
+// the places of a block. The loop tests q != n: of q < n, n a power of 2, the compiler makes a shift in every turn.
 ghost use mathlib.Core.Path.{_≡_};
 ghost use Prim.Native.Nat.{suc, _+_, _*_, _^_};
 ghost use lib.Bits.{bitXor};
@@ -8,7 +8,7 @@ ghost use Rattle.words.specs.Word.{bit};
 ghost use Rattle.words.specs.Written.{Written};
 ghost use Rattle.area.specs.Area.{at, wordOf};
 ghost use Rattle.direction.specs.Direction;
-ghost use Rattle.projections.specs.Projects.{Projects};
+ghost use Rattle.cosets.specs.Votes.{Projects};
 ghost use Rattle.projections.specs.Fours.{InFours, bitSum, BitPair, TwoBlocks, pairSum};
 
 // The sum of the bits i of x and i XOR l of y.

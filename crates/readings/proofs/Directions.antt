@@ -23,8 +23,7 @@ use Rattle.direction.specs.Cosets.{coset-lt}
 use Rattle.direction.specs.Direction.{project, cosetOf}
 use Rattle.direction.specs.Insert.{highest-top}
 use Rattle.direction.specs.Projected.{word-project}
-use Rattle.projections.specs.Projects.{Projects}
-use Rattle.votes.specs.Votes.{Tally, castVote}
+use Rattle.cosets.specs.Votes.{Projects, Tally, castVote}
 use Rattle.rule.specs.Reading.{Outcome, leavesOf, vote, votes, reading, roundLeaves}
 use Rattle.rule.specs.Decoding.{limited, answerOf}
 use Rattle.rule.specs.DecodingLaws.{limited-within}

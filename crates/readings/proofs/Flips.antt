@@ -17,7 +17,7 @@ use Rattle.words.specs.Written.{Written}
 use Rattle.area.specs.Area.{at, Front, wordOf}
 use Rattle.area.specs.AreaLaws.{front-word}
 use Rattle.direction.specs.Direction.{project}
-use Rattle.votes.specs.Votes.{Tally}
+use Rattle.cosets.specs.Votes.{Tally}
 use Rattle.rule.specs.Reading.{Outcome, accepted, refused, vote, votes, abstained, flipped, flips}
 use Rattle.rule.specs.Rounds.{flips-word, still}
 use Rattle.steps.specs.Steps.{flipOf}

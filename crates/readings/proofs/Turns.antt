@@ -19,7 +19,7 @@ use Rattle.refusals.specs.declared.Refusal.the-variants.{Flipping, TooManyLeave
 use Rattle.refusals.specs.declared.Decoded.{Decoded}
 use Rattle.refusals.specs.declared.Decoded.the-variants.{Accepted, Refused}
 use Rattle.code.specs.Code.{codewordTest}
-use Rattle.votes.specs.Votes.{Tally}
+use Rattle.cosets.specs.Votes.{Tally}
 use Rattle.hadamard.specs.Correlation.{values}
 use Rattle.rule.specs.Reading.{Outcome, accepted, refused, leavesOf, order0, order1, abstained, flips, reading, roundLeaves, rounds}
 use Rattle.rule.specs.Rounds.{rounds-none, rounds-step, still}

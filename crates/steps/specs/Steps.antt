@@ -9,7 +9,7 @@ use Rattle.words.specs.Word.{indicator}
 use Rattle.area.specs.Area.{at, Front, SameFront}
 use Rattle.refusals.specs.declared.Decoded.{Decoded}
 use Rattle.refusals.specs.declared.Decoded.the-variants.{Accepted, Refused}
-use Rattle.votes.specs.Votes.{InProjection, castVote}
+use Rattle.cosets.specs.Votes.{InProjection, castVote}
 use Rattle.rule.specs.Reading.{Outcome, accepted, refused, flipped}
 use Rattle.rule.specs.Decoding.{Values, values, answerOf}
 use Rattle.rule.specs.Calls.{valuesOf}

@@ -12,8 +12,7 @@ ghost use Rattle.words.specs.Sum.{allBelow};
 ghost use Rattle.words.specs.Word.{bit};
 ghost use Rattle.words.specs.Written.{Written};
 ghost use Rattle.area.specs.Area.{at, Bits, wordOf};
-ghost use Rattle.projections.specs.Projects.{Projects};
-ghost use Rattle.votes.specs.Votes.{Tally};
+ghost use Rattle.cosets.specs.Votes.{Projects, Tally};
 ghost use Rattle.rule.specs.Calls.{valuesOf};
 ghost use Rattle.steps.specs.Steps.{countIn, voteOf, flipOf, Voter, Unmoved};
 

@@ -13,11 +13,11 @@ use Rattle.words.specs.Xor.{xor-twice}
 use Rattle.area.specs.Area.{at, wordOf}
 use Rattle.area.specs.Numbers.{Half}
 use Rattle.direction.specs.Direction.{cosetOf, project}
-use Rattle.votes.specs.Votes.{Tally, InProjection, castVote}
+use Rattle.cosets.specs.Votes.{Tally, InProjection, castVote}
 use Rattle.votes.specs.FourVotes.{FourVotes, fourVote, FourVoted}
 use Rattle.projections.specs.FourLaws.{four-lt, blocks-apart}
-use Rattle.projections.proofs.Turns.{direction-lt, number-one, number-two, only-members}
-use Rattle.votes.proofs.VoteLoops.{VotedBelow}
+use Rattle.cosets.proofs.Turns.{direction-lt, number-one, number-two, only-members}
+use Rattle.cosets.proofs.VoteLoops.{VotedBelow}
 use Rattle.projections.proofs.FourTurns.{FourTurn, block-room, place-whole, four-members, four-partner, partner-place, two-blocks, four-value}
 
 -- ys is the area before the turn

@@ -1,5 +1,4 @@
 -- What the proofs of the loops share.
-pub mod VoteLoops
 pub mod FourAdds
 pub mod FourCasts
 pub mod FourLoops

@@ -6,8 +6,7 @@ use lib.IntN.{ℤ, pos, _+ℤ_}
 use Rattle.words.specs.Written.{Written}
 use Rattle.area.specs.Area.{at}
 use Rattle.direction.specs.Direction.{highest}
-use Rattle.projections.specs.Projects.{Projects}
-use Rattle.votes.specs.Votes.{Tally, InProjection, castVote}
+use Rattle.cosets.specs.Votes.{Projects, Tally, InProjection, castVote}
 use Rattle.projections.specs.Fours.{InFours}
 use Rattle.projections.proofs.FourCalls.{project-asks}
 

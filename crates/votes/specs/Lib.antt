@@ -1,3 +1,2 @@
--- What the functions ask and promise.
-pub mod Votes
+-- What the functions on blocks ask and promise.
 pub mod FourVotes

@@ -1,5 +1,5 @@
 // Votes by blocks of 4 cosets, for directions from 4 on: the low digits l of the direction, b = w + l, only exchange
-// the places of a block. The loops test q != n: the compiler makes a shift in every turn of q < n where n is a power of 2.
+// the places of a block. The loop tests q != n: of q < n, n a power of 2, the compiler makes a shift in every turn.
 ghost use mathlib.Core.Path.{_≡_};
 ghost use Prim.Native.Nat.{suc, _+_, _^_, _<_};
 ghost use lib.ListN.{length};
@@ -7,8 +7,7 @@ ghost use lib.Bits.{bitXor};
 ghost use lib.IntN.{pos, _+ℤ_};
 ghost use Rattle.words.specs.Written.{Written};
 ghost use Rattle.area.specs.Area.{at, IsBit};
-ghost use Rattle.projections.specs.Projects.{Projects};
-ghost use Rattle.votes.specs.Votes.{Tally, InProjection, castVote};
+ghost use Rattle.cosets.specs.Votes.{Projects, Tally, InProjection, castVote};
 ghost use Rattle.projections.specs.Fours.{InFours, bitSum, BitPair};
 ghost use Rattle.votes.specs.FourVotes.{addend, Addends, FourVotes, FourVoted};
 

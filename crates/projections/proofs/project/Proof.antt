@@ -1,7 +1,7 @@
 -- `projections::project` meets its contract: by cosets below 4, and by blocks of 4 cosets from there on. Assumes nothing.
 use borrow.Author.Needs.{needs}
 use native.Mathlib.Omega.{arith}
-use Rattle.projections.proofs.Turns.{direction-lt}
+use Rattle.cosets.proofs.Turns.{direction-lt}
 use Rattle.projections.proofs.FourCalls.{project-asks, projected-by}
 use Rattle.projections.proofs.project.Statement.{statement}
 use Rattle.projections.proofs.project.Tie as tie

@@ -1,7 +1,7 @@
 -- `votes::add_votes` meets its contract: by cosets below 4, and by blocks of 4 cosets from there on. Assumes nothing.
 use borrow.Author.Needs.{needs}
 use native.Mathlib.Omega.{arith}
-use Rattle.projections.proofs.Turns.{direction-lt}
+use Rattle.cosets.proofs.Turns.{direction-lt}
 use Rattle.votes.proofs.VoteCalls.{vote-asks, voted-by}
 use Rattle.votes.proofs.add_votes.Statement.{statement}
 use Rattle.votes.proofs.add_votes.Tie as tie

@@ -8,7 +8,7 @@ use Rattle.words.specs.Word.{bit}
 use Rattle.words.specs.Written.{Written, written-none, written-run, written-to}
 use Rattle.area.specs.Area.{wordOf}
 use Rattle.direction.specs.Direction.{project}
-use Rattle.projections.proofs.Turns.{number-le}
+use Rattle.cosets.proofs.Turns.{number-le}
 use Rattle.projections.proofs.FourTurns.{FourTurn, highest-le, block-room, two-blocks, four-value}
 use Rattle.projections.proofs.fours.project_fours.Statement.{statement}
 use Rattle.projections.proofs.fours.project_fours.Tie as tie

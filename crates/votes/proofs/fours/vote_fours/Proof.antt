@@ -3,8 +3,8 @@ use Prim.Native.Nat.{_+_, _-_, _%_, _^_, _≤_}
 use mathlib.Core.Path.{_≡_}
 use native.Mathlib.Omega.{arith}
 use borrow.Author.Needs.{needs}
-use Rattle.projections.proofs.Turns.{number-le}
-use Rattle.votes.proofs.VoteLoops.{VotedBelow, voted-none, voted-all}
+use Rattle.cosets.proofs.Turns.{number-le}
+use Rattle.cosets.proofs.VoteLoops.{VotedBelow, voted-none, voted-all}
 use Rattle.projections.proofs.FourTurns.{highest-le, block-room}
 use Rattle.votes.proofs.FourLoops.{VoteTurn, four-asks, voted-four}
 use Rattle.votes.proofs.fours.vote_fours.Statement.{statement}

@@ -17,7 +17,7 @@ use Rattle.direction.specs.Direction.{cosetOf, highest, insertZero, project}
 use Rattle.direction.specs.Insert.{Top, highest-top, insert-lt}
 use Rattle.direction.specs.Cosets.{by-coset, insert-coset, coset-same, coset-insert}
 use Rattle.direction.specs.Projected.{bit-project, word-project}
-use Rattle.projections.specs.Projects.{Projects}
+use Rattle.cosets.specs.Votes.{Projects}
 
 -- p is the representative of coset q
 pub record Members (m b q p : ℕ) : Type 0 where

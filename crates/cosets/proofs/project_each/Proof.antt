@@ -1,4 +1,4 @@
--- `projections::project_each` meets its contract: a turn writes the sum of the bits of one coset's members. Assumes nothing.
+-- `cosets::project_each` meets its contract: a turn writes the sum of the bits of one coset's members. Assumes nothing.
 use Prim.Native.Nat.{suc, _-_, _*_, _^_, _≤_}
 use native.Mathlib.Omega.{arith}
 use lib.IntN.{pos}
@@ -7,9 +7,9 @@ use Rattle.words.specs.Word.{bit}
 use Rattle.words.specs.Written.{Written, written-none, written-more, written-to}
 use Rattle.area.specs.Area.{wordOf}
 use Rattle.direction.specs.Direction.{project}
-use Rattle.projections.proofs.Turns.{Members, members, number-le, direction-lt, pair-value}
-use Rattle.projections.proofs.project_each.Statement.{statement}
-use Rattle.projections.proofs.project_each.Tie as tie
+use Rattle.cosets.proofs.Turns.{Members, members, number-le, direction-lt, pair-value}
+use Rattle.cosets.proofs.project_each.Statement.{statement}
+use Rattle.cosets.proofs.project_each.Tie as tie
 
 abbrev Inv-loop : tie.InvT-loop
 Inv-loop m b area₀ n h q₀ area q =

@@ -21,9 +21,8 @@ use Rattle.area.specs.Numbers.{stored, Half, sum-fits, sum-stored}
 use Rattle.direction.specs.Direction.{cosetOf, project}
 use Rattle.direction.specs.Projected.{word-project}
 use Rattle.direction.specs.Cosets.{coset-lt}
-use Rattle.projections.specs.Projects.{Projects}
-use Rattle.votes.specs.Votes.{Tally, InProjection, castVote}
-use Rattle.projections.proofs.Turns.{Members, direction-lt, direction-top, pair-sum, number-one, number-two, only-members}
+use Rattle.cosets.specs.Votes.{Projects, Tally, InProjection, castVote}
+use Rattle.cosets.proofs.Turns.{Members, direction-lt, direction-top, pair-sum, number-one, number-two, only-members}
 
 -- ys is xs with the votes of the cosets numbered below q
 pub record VotedBelow (m b : ℕ) (xs : List ℤ) (q : ℕ) (ys : List ℤ) : Type 0 where

@@ -1,12 +1,21 @@
--- Votes in the area: a word of exponent m + 1 in its front, then as many votes, then a projection or what was decoded
+-- Projections and votes in the area: a word of exponent m + 1 in its front, then as many votes, then a projection or what was decoded
 -- from it. Assumes nothing.
-use Prim.Native.Nat.{ℕ, suc, _+_, _*_, _%_, _^_, _<_}
+use Prim.Native.Nat.{ℕ, suc, _+_, _*_, _%_, _^_, _≤_, _<_}
 use mathlib.Core.Path.{_≡_}
 use mathlib.Core.List.{List}
+use lib.ListN.{length}
 use lib.IntN.{ℤ, pos, natAbs}
 use Rattle.words.specs.Word.{bit}
-use Rattle.area.specs.Area.{at, IsBit, wordOf}
+use Rattle.area.specs.Area.{at, IsBit, Bits, wordOf}
 use Rattle.direction.specs.Direction.{project, cosetOf}
+
+-- what direction b asks of the area
+pub record Projects (m b : ℕ) (xs : List ℤ) : Type 0 where
+  pub small : m ≤ 9
+  pub some : 0 < b
+  pub under : b < 2 ^ suc m
+  pub room : 5 * 2 ^ m ≤ length xs
+  pub bits : Bits (2 ^ suc m) xs
 
 -- the n numbers after the first n are votes, fewer than b each
 pub record Tally (n b : ℕ) (xs : List ℤ) : Type 0 where

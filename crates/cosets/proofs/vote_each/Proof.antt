@@ -1,12 +1,12 @@
--- `votes::vote_each` meets its contract: a turn adds the vote of one coset at both its members. Assumes nothing.
+-- `cosets::vote_each` meets its contract: a turn adds the vote of one coset at both its members. Assumes nothing.
 use Prim.Native.Nat.{_-_, _^_, _≤_}
 use native.Mathlib.Omega.{arith}
 use lib.ListN.{length-set}
 use borrow.Author.Needs.{needs}
-use Rattle.projections.proofs.Turns.{members, number-le, direction-lt}
-use Rattle.votes.proofs.VoteLoops.{VotedBelow, voted-none, voted-all, Turn, one-fits, two-fits, voted-more}
-use Rattle.votes.proofs.vote_each.Statement.{statement}
-use Rattle.votes.proofs.vote_each.Tie as tie
+use Rattle.cosets.proofs.Turns.{members, number-le, direction-lt}
+use Rattle.cosets.proofs.VoteLoops.{VotedBelow, voted-none, voted-all, Turn, one-fits, two-fits, voted-more}
+use Rattle.cosets.proofs.vote_each.Statement.{statement}
+use Rattle.cosets.proofs.vote_each.Tie as tie
 
 abbrev Inv-loop : tie.InvT-loop
 Inv-loop m b area₀ n h q₀ area q = (q ≤ 2 ^ m) × VotedBelow m b area₀ q area

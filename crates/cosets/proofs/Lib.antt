@@ -1,0 +1,3 @@
+-- What the proofs of the loops share.
+pub mod Turns
+pub mod VoteLoops

@@ -1,0 +1,2 @@
+-- What the functions ask and promise.
+pub mod Votes
