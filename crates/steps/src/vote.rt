@@ -57,12 +57,16 @@ pub fn flip(n: usize, area: &mut [i32]) -> bool
     ensures settled { λ r. ⌜ ((a : ℕ) → r ≡ allBelow n (λ p. eqb (flipOf n a (now (area .entry)) p) 0)) ⌝ }
     ensures flipped { λ r. ⌜ ((a : ℕ) → Written (pos 0) 0 n (λ p. pos ((bit (wordOf n (now (area .entry))) p + flipOf n a (now (area .entry)) p) % 2)) (now (area .entry)) (now (area .exit))) ⌝ }
 {
+    let last = (n - 1) as u32;
     let mut settled = true;
     for p in 0..n {
-        if n - 1 < 2 * (area[n + p] as usize) {
-            area[p] = area[p] ^ 1;
-            settled = false;
-        }
+        let f = if last < 2 * (area[n + p] as u32) {
+            1
+        } else {
+            0
+        };
+        area[p] = area[p] ^ f;
+        settled = settled & (f == 0);
     }
     settled
 }

@@ -1,6 +1,6 @@
 -- `steps::vote::flip` meets its contract: the loop flips the places passed. Assumes nothing.
 use Prim.Native.Nat.{ℕ, _+_, _-_, _*_, _%_, _≤_, _<_}
-use mathlib.Core.Path.{_≡_, refl, sym, ap, subst, _∙_}
+use mathlib.Core.Path.{_≡_, refl, sym, ap, _∙_}
 use mathlib.Core.Bool.{Bool, true, false, _&&_}
 use mathlib.Core.List.{List}
 use mathlib.Core.Logic.{⊎-elim}
@@ -15,11 +15,10 @@ use mir.Val.{toZ, ofZ}
 use borrow.Author.Needs.{needs}
 use borrow.Author.Tests.{lt-ltb, le-ltb}
 use Rattle.words.specs.Sum.{total, allBelow}
-use Rattle.words.specs.SumLaws.{some-false}
 use Rattle.words.specs.Word.{bit, indicator}
-use Rattle.words.specs.Written.{Written, written-none, written-more, written-skip, written-to}
+use Rattle.words.specs.Written.{Written, written-none, written-more, written-to}
 use Rattle.area.specs.Area.{at, Bits, IsBit, zero-bit, one-bit, wordOf}
-use Rattle.area.specs.AreaLaws.{bit-lt, bit-wordOf, bits-at}
+use Rattle.area.specs.AreaLaws.{bit-wordOf}
 use Rattle.area.specs.Numbers.{stored, stored-eq}
 use Rattle.rule.specs.Reading.{flipped}
 use Rattle.steps.specs.Steps.{flipOf}
@@ -42,25 +41,24 @@ module _ (n : ℕ) (xs : List ℤ) (p : ℕ) where
   unfolding flipped
   stays h = ap indicator (le-ltb (n - 1) (2 * natAbs (at xs (n + p))) h)
 
-other-bit : {z : ℤ} → IsBit z → toZ w32 (bitXor (ofZ w32 z) 1) ≡ pos ((natAbs z + 1) % 2)
-other-bit zero-bit = refl
-other-bit one-bit = refl
+-- a bit with the flip added
+flipped-bit : {z : ℤ} → IsBit z → (t : Bool) → toZ w32 (bitXor (ofZ w32 z) (indicator t)) ≡ pos ((natAbs z + indicator t) % 2)
+flipped-bit zero-bit true = refl
+flipped-bit zero-bit false = refl
+flipped-bit one-bit true = refl
+flipped-bit one-bit false = refl
 
-and-true : (x : Bool) → x && true ≡ x
-and-true true = refl
-and-true false = refl
-
-all-goes : (n : ℕ) (f : ℕ → Bool) → f n ≡ true → allBelow (n + 1) f ≡ allBelow n f
+all-more : (n : ℕ) (f : ℕ → Bool) → allBelow n f && f n ≡ allBelow (n + 1) f
 unfolding total
-all-goes n f e = rw (add-one n, e) (and-true (allBelow n f))
+all-more n f = rw add-one
 
 abbrev Inv-loop : tie.InvT-loop
-Inv-loop n area₀ settled₀ p₀ area settled p =
+Inv-loop n area₀ last settled₀ p₀ area settled p =
     (p ≤ n) × (length area ≡ length area₀)
     × Written (pos 0) 0 p (flippedAt n area₀) area₀ area × (settled ≡ allBelow p (still n area₀))
 
 abbrev μ-loop : tie.MeasureT-loop
-μ-loop n area₀ settled₀ p₀ area settled p = n - p
+μ-loop n area₀ last settled₀ p₀ area settled p = n - p
 
 -- the votes that the code reads
 votes : (c : tie.After-if12 Inv-loop μ-loop) → let s = c .before .before .before in let l = c .before .before .loop in
@@ -77,12 +75,26 @@ bit-read : (c : tie.After-if12 Inv-loop μ-loop) → let s = c .before .before .
     at (l .area) (l .p) ≡ at (s .args .area .now) (l .p)
 bit-read c = let l = c .before .before .loop in l .inv .2 .above (l .p) (omega arith)
 
+-- whether the place flips
+flip-is : (c : tie.Joined1 Inv-loop μ-loop) → let s = c .before .before .before .before in let l = c .before .before .before .loop in
+    c .if1 .f ≡ flipOf (s .args .n) 0 (s .args .area .now) (l .p)
+flip-is c =
+    let s = c .before .before .before .before in
+    let l = c .before .before .before .loop in
+    ⊎-elim
+    (λ w. w .1 ∙ sym (flips (s .args .n) (s .args .area .now) (l .p) (rw (votes (c .before)) at (w .0 .taken))))
+    (λ w. w .1 ∙ sym (stays (s .args .n) (s .args .area .now) (l .p) (rw (votes (c .before)) at (w .0 .left))))
+    (c .if1 .came)
+
+sub-last : tie.Need-sub-last Inv-loop μ-loop
+sub-last c = search needs
+
+cast-last : tie.Need-cast-last Inv-loop μ-loop
+cast-last c = search needs
+
 loop-holds : tie.Need-loop-holds Inv-loop μ-loop
 unfolding total
 loop-holds c = (omega arith, refl, written-none _ _ _ _, refl)
-
-sub-if1 : tie.Need-sub-if1 Inv-loop μ-loop
-sub-if1 c = search needs
 
 add-if1 : tie.Need-add-if1 Inv-loop μ-loop
 add-if1 c = search needs
@@ -109,8 +121,8 @@ mul-area c = search needs
 slice-copy-out-area : tie.Need-slice-copy-out-area Inv-loop μ-loop
 slice-copy-out-area c = search needs
 
-mul-t17 : tie.Need-mul-t17 Inv-loop μ-loop
-mul-t17 c = search needs
+mul-t10 : tie.Need-mul-t10 Inv-loop μ-loop
+mul-t10 c = search needs
 
 slice-set-from-area : tie.Need-slice-set-from-area Inv-loop μ-loop
 slice-set-from-area c = search needs
@@ -123,31 +135,21 @@ loop-less c = search needs
 
 loop-again : tie.Need-loop-again Inv-loop μ-loop
 loop-again c =
-    let s = c .before .before .before .before in
-    let l = c .before .before .before .loop in
+    let f = c .before .before in
+    let s = f .before .before .before .before in
+    let l = f .before .before .before .loop in
     let n : ℕ = s .args .n in
     let xs : List ℤ = s .args .area .now in
-    let under : l .p < n = c .before .before .loop-test .taken in
+    let under : l .p < n = f .before .before .loop-test .taken in
     let b : Bits n xs = s .pre .1 .0 in
-    ⊎-elim
-    (λ w.
-    let f : flipOf n 0 xs (l .p) ≡ 1 = flips n xs (l .p) (rw (votes (c .before)) at (w .0 .taken)) in
-    let more = written-more (l .inv .2) _ _ (omega arith) (omega arith)
-    (rw (bit-read (c .before), f, bit-wordOf n xs (l .p) under) (other-bit (b .bits (l .p) under))) in (
+    let more = written-more (l .inv .2) (l .p) (toZ w32 (bitXor (ofZ w32 (at (l .area) (l .p))) (f .if1 .f))) (omega arith) (omega arith)
+    (rw (bit-read (f .before), flip-is f, bit-wordOf n xs (l .p) under)
+    (flipped-bit (b .bits (l .p) under) (flipped (natAbs (at xs (n + l .p))) (n - 1) 0))) in (
       omega arith,
-      ap length (w .2) ∙ more .long,
-      subst (Written (pos 0) 0 (l .p + 1) (flippedAt n xs) xs) (sym (w .2)) more,
-      w .3 ∙ sym (some-false (l .p + 1) (still n xs) (l .p) (omega arith) (ap (λ (x : ℕ). eqb x 0) f)),
-    ))
-    (λ w.
-    let f : flipOf n 0 xs (l .p) ≡ 0 = stays n xs (l .p) (rw (votes (c .before)) at (w .0 .left)) in (
-      omega arith,
-      ap length (w .1) ∙ l .inv .1,
-      subst (Written (pos 0) 0 (l .p + 1) (flippedAt n xs) xs) (sym (w .1)) (written-skip (l .inv .2)
-          (ap (at xs) (omega arith) ∙ bits-at b (l .p) under ∙ ap pos (omega (arith, bit-wordOf n xs (l .p) under, bit-lt (b .bits (l .p) under))))),
-      w .2 ∙ l .inv .3 ∙ sym (all-goes (l .p) (still n xs) (ap (λ (x : ℕ). eqb x 0) f)),
-    ))
-    (c .if1 .came)
+      more .long,
+      more,
+      rw (l .inv .3, flip-is f) (all-more (l .p) (still n xs)),
+    )
 
 same-length : tie.Need-same-length Inv-loop μ-loop
 same-length c = search needs
@@ -166,8 +168,9 @@ flip-spec =
     (tie.spec
     Inv-loop
     μ-loop
+    sub-last
+    cast-last
     loop-holds
-    sub-if1
     add-if1
     mul-if1
     slice-copy-out-if1
@@ -175,7 +178,7 @@ flip-spec =
     mul-if1-2
     mul-area
     slice-copy-out-area
-    mul-t17
+    mul-t10
     slice-set-from-area
     add-p
     loop-less
