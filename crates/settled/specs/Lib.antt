@@ -1,0 +1,3 @@
+-- Definitions: Numbers. Laws: NumberLaws.
+pub mod Numbers
+pub mod NumberLaws
