@@ -10,11 +10,11 @@ ghost use Rattle.words.specs.Sum.{tabulate};
 ghost use Rattle.words.specs.Word.{IsWord};
 ghost use Rattle.code.specs.Code.{coefficient, dimension, codewordTest, messageOf};
 ghost use Rattle.codec.specs.Calls.{Encodes, Reads, Tests, encodeChecks, wordChecks, testChecks};
-use coefficients::message::degrees;
-use coefficients::message::dimension;
-use coefficients::message::gather;
-use coefficients::message::is_low;
-use coefficients::message::spread;
+use messages::degrees;
+use messages::dimension;
+use messages::gather;
+use messages::is_low;
+use messages::spread;
 use refusals::Answer;
 use refusals::Refusal;
 
@@ -87,7 +87,7 @@ pub fn encode(m: usize, r: usize, message: &[u8], out: &mut [u8]) -> Answer
     let mut d = [0u8; 1024];
     degrees(&mut d, out.len());
     spread(r, &d, message, out);
-    coefficients::transform::transform(out, m);
+    coefficients::transform(out, m);
     Answer::Done
 }
 
@@ -97,7 +97,7 @@ fn test_in(m: usize, r: usize, word: &[u8], t: &mut [u8]) -> bool
     ensures { λ b. ⌜ (b ≡ codewordTest m r (now (word .entry))) × (now (t .exit) ≡ tabulate (2 ^ m) (coefficient m (now (word .entry)))) ⌝ }
 {
     words::copy(word, t);
-    coefficients::transform::transform(t, m);
+    coefficients::transform(t, m);
     is_low(r, t)
 }
 

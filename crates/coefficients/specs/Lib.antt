@@ -1,6 +1,3 @@
--- Definitions: DegreeTable, Numbers. The rest are laws.
-pub mod DegreeTable
-pub mod Numbers
+-- Laws of the coefficients: of their list, and of the transform.
 pub mod Transformed
 pub mod TransformLaws
-pub mod NumberLaws

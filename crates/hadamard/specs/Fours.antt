@@ -1,29 +1,15 @@
 -- The transform of 4 numbers, as straight code computes it: two sums and two differences, then theirs. Assumes nothing.
 use Prim.Native.Nat.{ℕ, _^_, _<_}
 use mathlib.Core.Path.{_≡_, ap₂, _∙_}
-use mathlib.Core.List.{List, [], _∷_}
+use mathlib.Core.List.{List}
 use native.Mathlib.Omega.{arith}
 use lib.IntN.{ℤ, negℤ, natAbs, _+ℤ_, _-ℤ_}
-use lib.ListN.{length, set}
+use lib.ListN.{set}
 use Rattle.area.specs.Area.{at}
 use Rattle.area.specs.Numbers.{Half, difference-stored, natAbs-add, natAbs-neg, stored, stored-eq, sum-stored}
 use Rattle.hadamard.specs.Transform.{sums}
-use Rattle.words.specs.Butterflies.{Entries, butterflies, halved}
-use Rattle.words.specs.Sum.{tabulate}
-
--- the four entries of the transform, set one after the other
-set-four :
-    (a : List ℤ) → length a ≡ 4 → {p q r s : ℤ}
-    → p ≡ (at a 0 +ℤ at a 1) +ℤ (at a 2 +ℤ at a 3) → q ≡ (at a 0 -ℤ at a 1) +ℤ (at a 2 -ℤ at a 3)
-    → r ≡ (at a 0 +ℤ at a 1) -ℤ (at a 2 +ℤ at a 3) → s ≡ (at a 0 -ℤ at a 1) -ℤ (at a 2 -ℤ at a 3)
-    → set (set (set (set a 0 p) 1 q) 2 r) 3 s ≡ halved sums 2 a
-unfolding sums halved butterflies tabulate
-set-four [] n ep eq er es = absurd (omega arith)
-set-four (w ∷ []) n ep eq er es = absurd (omega arith)
-set-four (w ∷ x ∷ []) n ep eq er es = absurd (omega arith)
-set-four (w ∷ x ∷ y ∷ []) n ep eq er es = absurd (omega arith)
-set-four (w ∷ x ∷ y ∷ z ∷ []) n ep eq er es = rw (ep, eq, er, es)
-set-four (w ∷ x ∷ y ∷ z ∷ v ∷ a) n ep eq er es = absurd (omega arith)
+use Rattle.words.specs.Butterflies.{Entries, halved}
+use Rattle.words.specs.ButterflyLaws.{set-four}
 
 -- a sum and a difference, as the code computes them
 abbrev plus : ℤ → ℤ → ℤ
@@ -62,8 +48,9 @@ module _ {a : List ℤ} (e : Entries sums 4 2 a) where
       let t = plus (at a 2) (at a 3) in
       let f = minus (at a 2) (at a 3) in
       set (set (set (set a 0 (stored (plus s t))) 1 (stored (plus d f))) 2 (stored (minus s t))) 3 (stored (minus d f)) ≡ halved sums 2 a
+  unfolding sums
   four-summed =
-      set-four a (e .size)
+      set-four sums a (e .size)
       (sum-stored (plus-half 0 1) (plus-half 2 3) ∙ ap₂ _+ℤ_ (plus-is 0 1) (plus-is 2 3))
       (sum-stored (minus-half 0 1) (minus-half 2 3) ∙ ap₂ _+ℤ_ (minus-is 0 1) (minus-is 2 3))
       (difference-stored (plus-half 0 1) (plus-half 2 3) ∙ ap₂ _-ℤ_ (plus-is 0 1) (plus-is 2 3))

@@ -28,7 +28,7 @@ fn settle(m: usize, r: usize, k: usize, used: usize, area: &mut [i32]) -> Told
     ensures same { λ t. ⌜ SameFront (2 ^ m) (now (area .entry)) (now (area .exit)) ⌝ }
     ensures first { λ t. ⌜ (t .kept ≡ true → k ≡ 1) ⌝ }
 {
-    if coefficients::numbers::holds_codeword(m, r, area) {
+    if settled::holds_codeword(m, r, area) {
         Told {
             answer: Decoded::Accepted(k, used),
             kept: k == 1,

@@ -1,7 +1,7 @@
 -- Laws of the butterflies and of the transform by halves, and of the loop over the pairs. Assumes nothing.
 use Prim.Native.Nat.{ℕ, zero, suc, _+_, _-_, _^_, _≤_, _<_}
 use mathlib.Core.Path.{_≡_, refl, sym, ap, subst, _∙_}
-use mathlib.Core.List.{List, _++_}
+use mathlib.Core.List.{List, [], _∷_, _++_}
 use mathlib.Core.Logic.{_≢_, ⊎-elim}
 use native.Mathlib.Nat.{zero-add}
 use native.Mathlib.Omega.{arith}
@@ -64,6 +64,33 @@ module _ {A : Type 0} (R : Rule A) where
   pub halved-one : (a : List A) → butterflies R 1 a ≡ halved R 1 a
   unfolding halved
   halved-one a = ap (butterflies R 1) (sym (take-append-drop 1 a))
+
+  -- the transform of four entries, set one after the other
+  pub set-four :
+      (a : List A) → length a ≡ 4 → {p q r s : A}
+      → p ≡ R .low (R .low (entry R a 0) (entry R a 1)) (R .low (entry R a 2) (entry R a 3))
+      → q ≡ R .low (R .high (entry R a 0) (entry R a 1)) (R .high (entry R a 2) (entry R a 3))
+      → r ≡ R .high (R .low (entry R a 0) (entry R a 1)) (R .low (entry R a 2) (entry R a 3))
+      → s ≡ R .high (R .high (entry R a 0) (entry R a 1)) (R .high (entry R a 2) (entry R a 3))
+      → set (set (set (set a 0 p) 1 q) 2 r) 3 s ≡ halved R 2 a
+  unfolding halved butterflies tabulate
+  set-four [] n ep eq er es = absurd (omega arith)
+  set-four (w ∷ []) n ep eq er es = absurd (omega arith)
+  set-four (w ∷ x ∷ []) n ep eq er es = absurd (omega arith)
+  set-four (w ∷ x ∷ y ∷ []) n ep eq er es = absurd (omega arith)
+  set-four (w ∷ x ∷ y ∷ z ∷ []) n ep eq er es = rw (ep, eq, er, es)
+  set-four (w ∷ x ∷ y ∷ z ∷ v ∷ a) n ep eq er es = absurd (omega arith)
+
+  -- the last three of them, where the first stays as it is
+  pub set-three :
+      (a : List A) → length a ≡ 4 → {q r s : A}
+      → entry R a 0 ≡ R .low (R .low (entry R a 0) (entry R a 1)) (R .low (entry R a 2) (entry R a 3))
+      → q ≡ R .low (R .high (entry R a 0) (entry R a 1)) (R .high (entry R a 2) (entry R a 3))
+      → r ≡ R .high (R .low (entry R a 0) (entry R a 1)) (R .low (entry R a 2) (entry R a 3))
+      → s ≡ R .high (R .high (entry R a 0) (entry R a 1)) (R .high (entry R a 2) (entry R a 3))
+      → set (set (set a 1 q) 2 r) 3 s ≡ halved R 2 a
+  set-three a n {q} {r} {s} ep eq er es =
+      subst (λ (b : List A). set (set (set b 1 q) 2 r) 3 s ≡ halved R 2 a) (set-getD a 0 (R .none)) (set-four a n ep eq er es)
 
   -- ---- room
 

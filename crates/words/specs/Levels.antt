@@ -1,5 +1,5 @@
 -- The transform by halves level by level: blocks of 2 ^ k entries transformed, then blocks of twice the size. Assumes nothing.
-use Prim.Native.Nat.{ℕ, zero, suc, _+_, _-_, _*_, _/_, _^_, _≤_, _<_}
+use Prim.Native.Nat.{ℕ, zero, suc, _+_, _-_, _*_, _^_, _≤_, _<_}
 use mathlib.Core.Path.{_≡_, refl, sym, ap, subst, _∙_}
 use mathlib.Core.Logic.{⊎-elim}
 use mathlib.Core.List.{List, _++_, append-assoc}
@@ -226,16 +226,3 @@ module _ {A : Type 0} (R : Rule A) where
               done = er ∙ sym (one-block (butterflies R h) (h + h) both size);
             })
             (omega arith)
-
--- the sizes that the code computes for two halves of n entries
-pub record Halving (m n : ℕ) : Type 0 where
-  pub exponent : m ≡ suc (m - 1)
-  pub height : n / 2 ≡ 2 ^ (m - 1)
-  pub first : n / 2 - 0 ≡ n / 2
-  pub second : n - n / 2 ≡ n / 2
-
-pub halving : (m n : ℕ) → (m ≡ 0 → ⊥) → n ≡ 2 ^ m → Halving m n
-halving m n some e =
-    let em : m ≡ suc (m - 1) = omega arith in
-    let two : n ≡ 2 ^ (m - 1) + 2 ^ (m - 1) = e ∙ ap (λ (k : ℕ). 2 ^ k) em ∙ pow-double (m - 1) in
-    record { exponent = em; height = omega arith; first = omega arith; second = omega arith }

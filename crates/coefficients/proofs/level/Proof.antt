@@ -1,0 +1,68 @@
+-- `coefficients::level` meets its contract: a turn does one block. Assumes nothing.
+use Prim.Native.Nat.{_+_, _-_}
+use native.Mathlib.Omega.{arith}
+use lib.ListN.{length}
+use Rattle.words.specs.Butterflies.{butterflies, BlocksDone}
+use Rattle.words.specs.Blocks.{blocks-none, block-fits, block-lent, block-back, blocks-all}
+use Rattle.words.specs.Levels.{butterflies-keep}
+use Rattle.coefficients.specs.TransformLaws.{parities}
+use borrow.Author.Needs.{needs}
+use Rattle.coefficients.proofs.level.Statement.{statement}
+use Rattle.coefficients.proofs.level.Tie as tie
+
+abbrev Inv-loop : tie.InvT-loop
+Inv-loop s₀ h n w b₀ s b = BlocksDone (butterflies parities h) (h + h) b s₀ s
+
+abbrev μ-loop : tie.MeasureT-loop
+μ-loop s₀ h n w b₀ s b = length s₀ - b
+
+add-w : tie.Need-add-w Inv-loop μ-loop
+add-w c = omega (arith, c .before .pre .fits)
+
+loop-holds : tie.Need-loop-holds Inv-loop μ-loop
+loop-holds c = blocks-none _ _ _
+
+add-e : tie.Need-add-e Inv-loop μ-loop
+add-e c = omega (arith, block-fits (butterflies-keep parities _) (c .before .before .before .pre) (c .before .loop .inv) (omega arith))
+
+sub-butterfly : tie.Need-sub-butterfly Inv-loop μ-loop
+sub-butterfly c = search needs
+
+part-butterfly-start : tie.Need-part-butterfly-start Inv-loop μ-loop
+part-butterfly-start c = search needs
+
+part-butterfly-end : tie.Need-part-butterfly-end Inv-loop μ-loop
+part-butterfly-end c = omega (arith, block-fits (butterflies-keep parities _) (c .before .before .before .pre) (c .before .loop .inv) (omega arith), c .before .loop .inv .size)
+
+butterfly-requires : tie.Need-butterfly-requires Inv-loop μ-loop
+butterfly-requires c κs = block-lent (butterflies-keep parities _) (c .before .before .before .before .pre) (c .before .before .loop .inv) (omega arith) 1 (omega arith)
+
+loop-less : tie.Need-loop-less Inv-loop μ-loop
+loop-less c = omega (arith, c .before .before .before .before .before .before .before .pre .some)
+
+loop-again : tie.Need-loop-again Inv-loop μ-loop
+loop-again c = block-back (butterflies-keep parities _) (c .before .before .before .before .before .before .before .pre) (c .before .before .before .before .before .loop .inv) (omega arith) (c .before .before .butterfly .ensures)
+
+same-length : tie.Need-same-length Inv-loop μ-loop
+same-length c = c .before .loop .inv .size
+
+returns : tie.Need-returns Inv-loop μ-loop
+returns c = blocks-all (c .before .loop .inv) (omega arith)
+
+pub level-spec : {M : Type 1} → statement M
+level-spec =
+    tie.close
+    (tie.spec
+    Inv-loop
+    μ-loop
+    add-w
+    loop-holds
+    add-e
+    sub-butterfly
+    part-butterfly-start
+    part-butterfly-end
+    butterfly-requires
+    loop-less
+    loop-again
+    same-length
+    returns)

@@ -1,0 +1,4 @@
+-- Definitions: Numbers. Laws: NumberLaws.
+pub mod Numbers
+pub mod NumberLaws
+pub mod Fours
