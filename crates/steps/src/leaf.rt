@@ -64,7 +64,9 @@ fn first_order_in(m: usize, part: &mut [i32]) -> Told
             kept: true,
         };
     }
-    hadamard::write_affine(&mut part[0..n], peak.mask, peak.constant);
+    let mask = peak.mask;
+    let constant = peak.constant;
+    hadamard::write_affine(&mut part[0..n], mask, constant);
     changed(Decoded::Accepted(0, 1))
 }
 
