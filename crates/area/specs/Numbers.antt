@@ -1,14 +1,14 @@
 -- Integers in 32 signed bits: what the code stores and reads back, sums, differences and absolute values. Assumes nothing.
 use Prim.Native.Nat.{ℕ, zero, suc, _+_, _-_, _^_, _≤_, _<_}
-use mathlib.Core.Path.{_≡_, refl, ap, _∙_, subst}
-use mathlib.Core.Bool.{Bool, true, false, cond}
+use mathlib.Core.Path.{_≡_, refl, sym, ap, _∙_}
+use mathlib.Core.Bool.{Bool, true, false, cond, false≢true}
 use native.Mathlib.Omega.{arith}
 use lib.IntN.{ℤ, pos, negsuc, negℤ, natAbs, subℕ, _+ℤ_, _-ℤ_, +ℤ-idl}
-use lib.Signed.{mag, ltZ, nonNeg}
-use lib.Dec.{T, ltb}
+use lib.Signed.{mag, ltZ}
+use lib.Dec.{ltb}
 use borrow.Author.Tests.{ltb-true, lt-ltb}
 use mir.Syntax.{w32}
-use mir.Val.{Fits, SFits, toZ, ofZ, sel}
+use mir.Val.{SFits, toZ, ofZ, sel}
 use mir.Facts.{toZ-ofZ}
 
 -- ---- absolute values
@@ -71,34 +71,25 @@ module _ {x y : ℤ} (sx : Half x) (sy : Half y) where
   pub difference-stored : stored (stored x -ℤ stored y) ≡ x -ℤ y
   difference-stored = toZ-ofZ difference-fits ∙ rw (half-stored sx, half-stored sy)
 
--- ---- the absolute value
+-- ---- the absolute value, as a test gives it
 
-negated-nonNeg : (x : ℤ) → ltZ x (pos 0) ≡ true → T (nonNeg (negℤ x))
-negated-nonNeg (pos a) e = absurd (omega (arith, ltb-true a 0 e))
-negated-nonNeg (negsuc a) e = tt
+negative-size : (x : ℤ) → ltZ x (pos 0) ≡ true → negℤ x ≡ pos (natAbs x)
+negative-size (pos a) e = absurd (omega (arith, ltb-true a 0 e))
+negative-size (negsuc a) e = refl
 
-plain-nonNeg : (x : ℤ) → ltZ x (pos 0) ≡ false → T (nonNeg x)
-plain-nonNeg (pos a) e = tt
-plain-nonNeg (negsuc a) e = subst T e tt
+other-size : (x : ℤ) → ltZ x (pos 0) ≡ false → x ≡ pos (natAbs x)
+other-size (pos a) e = refl
+other-size (negsuc a) e = absurd (false≢true (sym e))
 
 module _ (x : ℤ) (h : natAbs x < 2 ^ 31) where
   negated : pos 0 -ℤ stored x ≡ negℤ x
   negated = rw (stored-eq x h) (+ℤ-idl (negℤ x))
 
-  pub negation-fits : SFits w32 (pos 0 -ℤ stored x)
-  negation-fits = rw negated (fits-32 (negℤ x) (rw natAbs-neg h))
+  pub negated-fits : SFits w32 (pos 0 -ℤ stored x)
+  negated-fits = rw negated (fits-32 (negℤ x) (rw natAbs-neg h))
 
-  negation-stored : stored (pos 0 -ℤ stored x) ≡ negℤ x
-  negation-stored = toZ-ofZ negation-fits ∙ negated
+  pub negated-is : ltZ (stored x) (pos 0) ≡ true → stored (pos 0 -ℤ stored x) ≡ pos (natAbs x)
+  negated-is e = toZ-ofZ negated-fits ∙ negated ∙ negative-size x (rw (stored-eq x h) at e)
 
-  pub negation-size : natAbs (stored (pos 0 -ℤ stored x)) ≡ natAbs x
-  negation-size = rw negation-stored (natAbs-neg x)
-
-  pub negation-casts :
-      ltZ (stored x) (pos 0) ≡ true
-      → T (nonNeg (stored (pos 0 -ℤ stored x))) × Fits w32 (natAbs (stored (pos 0 -ℤ stored x)))
-  negation-casts e =
-      (rw negation-stored (negated-nonNeg x (rw (stored-eq x h) at e)), record { fits = rw negation-size (omega arith) })
-
-  pub plain-casts : ltZ (stored x) (pos 0) ≡ false → T (nonNeg (stored x)) × Fits w32 (natAbs (stored x))
-  plain-casts e = rw (stored-eq x h) (plain-nonNeg x (rw (stored-eq x h) at e), record { fits = omega arith })
+  pub itself-is : ltZ (stored x) (pos 0) ≡ false → stored x ≡ pos (natAbs x)
+  itself-is e = stored-eq x h ∙ other-size x (rw (stored-eq x h) at e)

@@ -18,9 +18,8 @@ use Rattle.words.specs.SumLaws.{length-tabulate, getD-tabulate, tabulate-ext, t
 use Rattle.words.specs.TopBit.{ones-zero}
 use Rattle.words.specs.Written.{Written, written-none, written-more}
 use Rattle.area.specs.Area.{at, IsBit}
-use Rattle.area.specs.AreaLaws.{is-bit, bits-xor}
+use Rattle.area.specs.AreaLaws.{is-bit, bit-back, bits-xor}
 use Rattle.area.specs.Numbers.{stored}
-use Rattle.hadamard.specs.Bits32.{xor-is}
 use Rattle.hadamard.specs.Leaf.{affineAt, repeated, Repeats}
 use Rattle.words.specs.Parts.{back-within}
 
@@ -48,6 +47,10 @@ module _ (h u : ℕ) where
       rw (← k) (ones-split (b / 2 ^ h) i l ∙ rw (ones-start, ones-first i l))
 
 -- ---- what the code writes
+
+-- s ^ t, with s as a loop holds it
+xor-is : {s t : ℤ} → IsBit s → IsBit t → toZ w32 (bitXor (ofZ w32 s) (ofZ w32 t)) ≡ pos ((natAbs (stored s) + natAbs t) % 2)
+xor-is {t = t} bs bt = bits-xor bs bt ∙ ap (λ (z : ℤ). pos ((natAbs z + natAbs t) % 2)) (sym (bit-back bs))
 
 module _ (k : ℕ) {t : ℤ} (e : t ≡ pos (k % 2)) where
   pub parity-bit : IsBit t

@@ -1,6 +1,7 @@
 -- Laws of correlations: in document 01's words, of a word plus an affine word, and as a distance. Assumes nothing.
 use Prim.Native.Nat.{ℕ, zero, suc, _+_, _*_, _%_, _^_, _<_}
 use mathlib.Core.Path.{_≡_, refl, sym, ap, ap₂, _∙_}
+use mathlib.Core.Bool.{true, false, false≢true}
 use mathlib.Core.Logic.{_≢_}
 use mathlib.Core.List.{List}
 use native.Mathlib.Nat.{mul-add}
@@ -9,6 +10,8 @@ use native.Mathlib.Omega.{arith}
 use lib.Bits.{bitAnd, bitXor, and-zero-l, xor-zero-l}
 use lib.Count.{ones}
 use lib.IntN.{ℤ, pos, negsuc, negℤ, natAbs, _+ℤ_, +ℤ-assoc, +ℤ-comm, +ℤ-idl, +ℤ-invr, negℤ-negℤ}
+use lib.Signed.{ltZ}
+use borrow.Author.Tests.{ltb-true}
 use Rattle.words.specs.Sum.{sumBelow, sumBelowℤ, total}
 use Rattle.words.specs.SumLaws.{sum-ext, sum-prefix, sumℤ-ext, sumℤ-neg}
 use Rattle.words.specs.TopBit.{ones-zero}
@@ -35,6 +38,10 @@ signed-sum x y n z e =
 sign-signed : (x : ℕ) → sign x ≡ signed x (pos 1)
 sign-signed zero = refl
 sign-signed (suc x) = refl
+
+pub sign-size : (b : ℕ) → natAbs (sign b) ≡ 1
+sign-size zero = refl
+sign-size (suc b) = refl
 
 -- a bit's value where x is added to it
 sign-sum : (b x : ℕ) → b < 2 → sign ((b + x) % 2) ≡ signed (x % 2) (sign b)
@@ -64,6 +71,15 @@ constantOf-signed (suc zero) (pos zero) h k = absurd (omega arith)
 constantOf-signed (suc zero) (pos (suc n)) h k = refl
 constantOf-signed (suc zero) (negsuc n) h k = refl
 constantOf-signed (suc (suc t)) z h k = absurd (omega arith)
+
+-- the sign of a correlation, as a test gives it
+pub constantOf-negative : (z : ℤ) → ltZ z (pos 0) ≡ true → constantOf z ≡ 1
+constantOf-negative (pos n) e = absurd (omega (arith, ltb-true n 0 e))
+constantOf-negative (negsuc n) e = refl
+
+pub constantOf-other : (z : ℤ) → ltZ z (pos 0) ≡ false → constantOf z ≡ 0
+constantOf-other (pos n) e = refl
+constantOf-other (negsuc n) e = absurd (false≢true (sym e))
 
 -- ---- values
 

@@ -7,6 +7,4 @@ pub mod Peak
 pub mod PeakExt
 pub mod Transform
 pub mod Fours
-pub mod Search
-pub mod Bits32
 pub mod Blocks8

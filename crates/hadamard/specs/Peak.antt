@@ -1,9 +1,10 @@
 -- The greatest of finitely many numbers: where it is met, and whether at one place alone. Assumes nothing.
-use Prim.Native.Nat.{ℕ, zero, suc, _+_, _-_, _≤_, _<_}
+use Prim.Native.Nat.{ℕ, zero, suc, _+_, _-_, _≤_, _<_, max}
 use mathlib.Core.Path.{_≡_, refl, sym, ap, _∙_}
 use mathlib.Core.Logic.{_≢_, _⊎_, inl, inr, ⊎-elim}
 use native.Mathlib.Decide.{ℕ-discrete}
 use native.Mathlib.Nat.{not-suc-le-zero, le-refl, eq-or-lt-of-le}
+use native.Mathlib.Numerals.{add-one}
 use native.Mathlib.Omega.{arith}
 use lib.Dec.{eqb}
 use borrow.Author.Tests.{eq-eqb, ne-eqb}
@@ -36,6 +37,11 @@ module _ (f : ℕ → ℕ) where
   greatest-bound zero i h = absurd (not-suc-le-zero h)
   greatest-bound (suc n) i h =
       split-last n (λ (j : ℕ). f j ≤ greatestBelow (suc n) f) (λ j l. omega (arith, greatest-bound n j l)) (omega arith) i h
+
+  -- with one place more
+  pub greatest-more : (n : ℕ) → greatestBelow (n + 1) f ≡ max (greatestBelow n f) (f n)
+  unfolding total
+  greatest-more n = rw add-one
 
   -- and it is met
   pub greatest-met : (n : ℕ) → (i : ℕ) × (i < suc n) × (f i ≡ greatestBelow (suc n) f)

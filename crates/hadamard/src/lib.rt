@@ -1,4 +1,4 @@
-// The steps of an order 1 reading: signs, correlations, the best mask, and its codeword.
+// Correlations by the fast transform, and the first order codewords.
 ghost use mathlib.Core.Path.{_≡_};
 ghost use Prim.Native.Nat.{_+_, _%_, _^_, _<_};
 ghost use lib.ListN.{length};
@@ -7,90 +7,10 @@ ghost use lib.Bits.{bitAnd};
 ghost use lib.Count.{ones};
 ghost use Rattle.words.specs.Sum.{tabulate};
 ghost use Rattle.words.specs.Written.{Written};
-ghost use Rattle.area.specs.Area.{IsBit, Bits, wordOf};
-ghost use Rattle.hadamard.specs.Correlation.{values, countBelow, firstBelow};
-ghost use Rattle.hadamard.specs.Leaf.{sizes, mostOf, Sized, IsPeak, affineAt, repeated, Repeats};
+ghost use Rattle.area.specs.Area.{IsBit};
+ghost use Rattle.hadamard.specs.Leaf.{affineAt, repeated, Repeats};
 
 pub mod transform;
-
-// The mask of the greatest absolute value, and whether no other has it.
-pub struct Peak {
-    pub mask: usize,
-    pub alone: bool,
-}
-
-// Each bit as +1 or -1.
-pub fn signs(a: &mut [i32])
-    requires { ⌜ Bits (length (now a)) (now a) ⌝ }
-    ensures { λ _. ⌜ now (a .exit) ≡ tabulate (length (now (a .entry))) (values (wordOf (length (now (a .entry))) (now (a .entry)))) ⌝ }
-{
-    for p in 0..a.len() {
-        a[p] = 1 - 2 * a[p];
-    }
-}
-
-// The absolute value.
-pub fn size(x: i32) -> u32
-    requires { ⌜ natAbs x < 2 ^ 31 ⌝ }
-    ensures { λ g. ⌜ g ≡ natAbs x ⌝ }
-{
-    if x < 0 { (0 - x) as u32 } else { x as u32 }
-}
-
-// The greatest absolute value.
-fn greatest(a: &[i32]) -> u32
-    requires { ⌜ Sized (now a) ⌝ }
-    ensures { λ g. ⌜ g ≡ mostOf (now (a .entry)) ⌝ }
-{
-    let mut g: u32 = 0;
-    for i in 0..a.len() {
-        let x = size(a[i]);
-        if g < x {
-            g = x;
-        }
-    }
-    g
-}
-
-// How many absolute values are g.
-fn count(a: &[i32], g: u32) -> u32
-    requires { ⌜ Sized (now a) ⌝ }
-    ensures { λ n. ⌜ n ≡ countBelow (length (now (a .entry))) (sizes (now (a .entry))) g ⌝ }
-{
-    let mut n: u32 = 0;
-    for i in 0..a.len() {
-        if size(a[i]) == g {
-            n += 1;
-        }
-    }
-    n
-}
-
-// The first place whose absolute value is g, or the length of a.
-fn find(a: &[i32], g: u32) -> usize
-    requires { ⌜ Sized (now a) ⌝ }
-    ensures { λ u. ⌜ u ≡ firstBelow (length (now (a .entry))) (sizes (now (a .entry))) g ⌝ }
-{
-    let mut i = 0;
-    while i < a.len() {
-        if size(a[i]) == g {
-            return i;
-        }
-        i += 1;
-    }
-    i
-}
-
-pub fn best(a: &[i32]) -> Peak
-    requires { ⌜ Sized (now a) ⌝ }
-    ensures { λ p. ⌜ IsPeak (now (a .entry)) p ⌝ }
-{
-    let g = greatest(a);
-    let n = count(a, g);
-    let mask = find(a, g);
-    let alone = n == 1;
-    Peak { mask, alone }
-}
 
 // The parity of the ones in u.
 fn parity(u: usize) -> i32

@@ -81,7 +81,8 @@ fn level(a: &mut [i32], h: usize)
     }
 }
 
-// The correlation of every mask with the values in a, in place: blocks of 4 first, then level by level.
+// The correlation of every mask with the values in a, in place: blocks of 4 first, then level by level. The first level is a call of its
+// own with a literal, which the compiler unrolls.
 pub fn correlate(a: &mut [i32], m: usize)
     requires { ⌜ Summable m (now a) ⌝ }
     ensures { λ _. ⌜ now (a .exit) ≡ tabulate (2 ^ m) (correlation m (at (now (a .entry)))) ⌝ }
@@ -94,7 +95,11 @@ pub fn correlate(a: &mut [i32], m: usize)
         return;
     }
     fours(a);
-    let mut h: usize = 4;
+    if m == 2 {
+        return;
+    }
+    level(a, 4);
+    let mut h: usize = 8;
     while h < a.len() {
         level(a, h);
         h = h + h;

@@ -18,11 +18,7 @@ use Rattle.hadamard.specs.Correlation.{sign}
 use Rattle.peaks.specs.Peaks.{packed, raised, firstOf, secondOf, Packed}
 use Rattle.peaks.specs.Packing.{lifted}
 
--- ---- numbers that are not negative
-
-pub not-negative : (z : ℤ) → T (nonNeg z) → z ≡ pos (natAbs z)
-not-negative (pos n) t = refl
-not-negative (negsuc n) t = absurd t
+-- ---- sizes
 
 -- a size as the code holds it
 pub size-held : (n : ℕ) → n < 2 ^ 31 → toZ w32 n ≡ pos n

@@ -18,13 +18,13 @@ use Rattle.words.specs.Written.{Written}
 use Rattle.area.specs.Area.{at, SameFront, wordOf}
 use Rattle.area.specs.AreaLaws.{bit-wordOf}
 use Rattle.hadamard.specs.Correlation.{sign, values, correlation}
-use Rattle.hadamard.specs.CorrelationLaws.{correlation-ext}
+use Rattle.hadamard.specs.CorrelationLaws.{correlation-ext, sign-size}
 use Rattle.hadamard.specs.Leaf.{Summable}
 use Rattle.hadamard.specs.Transform.{correlation-low, correlation-top}
 use Rattle.peaks.specs.declared.Peak.{Peak}
 use Rattle.peaks.specs.Peaks.{packed, signsPacked, firstOf, secondOf, joined, Packed, IsPeak}
 use Rattle.peaks.specs.Packing.{packed-size, packed-small, first-packed, second-packed}
-use Rattle.peaks.specs.Packing.{sign-size, correlation-size, correlation-packed}
+use Rattle.peaks.specs.Packing.{correlation-size, correlation-packed}
 use Rattle.peaks.proofs.PeakExt.{peak-ext}
 
 -- the area xs holds a word of n places, two halves of h, in its first half

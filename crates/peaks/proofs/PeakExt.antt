@@ -1,17 +1,15 @@
 -- Values that agree below n have the same peak. Assumes nothing.
 use Prim.Native.Nat.{ℕ, _<_, max}
-use mathlib.Core.Path.{_≡_, sym, ap, _∙_}
-use mathlib.Core.Bool.{true}
+use mathlib.Core.Path.{_≡_, ap, _∙_}
 use lib.Dec.{eqb}
 use lib.IntN.{ℤ, pos, natAbs}
-use borrow.Author.Tests.{eqb-true}
 use Rattle.words.specs.Sum.{greatestBelow}
 use Rattle.words.specs.SumLaws.{total-ext}
 use Rattle.hadamard.specs.Correlation.{constantOf, countBelow, firstBelow}
-use Rattle.hadamard.specs.Peak.{one-alone}
 use Rattle.hadamard.specs.PeakExt.{count-ext, first-ext}
 use Rattle.peaks.specs.declared.Peak.{Peak}
 use Rattle.peaks.specs.Peaks.{IsPeak}
+use Rattle.peaks.specs.Found.{peak-below}
 
 module _ {n : ℕ} {c d : ℕ → ℤ} {p : Peak} (k : IsPeak n c p) (h : (u : ℕ) → u < n → c u ≡ d u) where
   abbrev f : ℕ → ℕ
@@ -32,13 +30,10 @@ module _ {n : ℕ} {c d : ℕ → ℤ} {p : Peak} (k : IsPeak n c p) (h : (u : �
   first-same : firstBelow n f (greatestBelow n f) ≡ firstBelow n g (greatestBelow n g)
   first-same = ap (firstBelow n f) most ∙ first-ext n f g (greatestBelow n g) same
 
-  mask-below : p .alone ≡ true → p .mask < n
-  mask-below e = rw (k .mask e) (one-alone n f (eqb-true _ 1 (sym (k .alone) ∙ e)) .below)
-
   pub peak-ext : IsPeak n d p
   peak-ext = record {
     alone = k .alone ∙ ap (λ (x : ℕ). eqb x 1) count-same;
     mask = λ e. k .mask e ∙ first-same;
-    constant = λ e. k .constant e ∙ ap (λ (z : ℤ). pos (constantOf z)) (h (p .mask) (mask-below e));
+    constant = λ e. k .constant e ∙ ap (λ (z : ℤ). pos (constantOf z)) (h (p .mask) (peak-below k e));
     whole = λ e. k .whole e ∙ ap (λ (x : ℕ). eqb x n) most;
   }

@@ -9,14 +9,14 @@ use native.Mathlib.Omega.{arith}
 use lib.Dec.{eqb}
 use lib.IntN.{ℤ, pos, natAbs}
 use lib.ListN.{length, take, drop}
-use borrow.Author.Tests.{eq-eqb, ne-eqb}
+use borrow.Author.Tests.{eq-eqb, eqb-true, ne-eqb}
 use Rattle.words.specs.Sum.{greatestBelow}
 use Rattle.words.specs.SumLaws.{total-ext}
 use Rattle.words.specs.Parts.{part-at, part-length}
 use Rattle.words.specs.Written.{Written}
 use Rattle.area.specs.Area.{at}
 use Rattle.hadamard.specs.Correlation.{constantOf}
-use Rattle.hadamard.specs.Peak.{Alone, Shared, alone-count, alone-first, alone-greatest, greatest-bound, peak, shared-count}
+use Rattle.hadamard.specs.Peak.{Alone, Shared, alone-count, alone-first, alone-greatest, greatest-bound, one-alone, peak, shared-count}
 use Rattle.peaks.specs.declared.Peak.{Peak}
 use Rattle.peaks.specs.Peaks.{entrySizes, firstOf, joined, keysBelow, secondOf, sizeOf, IsPeak, Packed, PeakAt, Sizes}
 use Rattle.peaks.specs.Keys.{keys-alone, keys-ext, keys-shared}
@@ -41,6 +41,17 @@ module _ (n : ℕ) (c : ℕ → ℤ) {p : Peak} where
     constant = λ e. absurd (false≢true (sym ea ∙ e));
     whole = λ e. absurd (false≢true (sym ea ∙ e));
   }
+
+-- the peak's mask has the greatest absolute value
+module _ {n : ℕ} {c : ℕ → ℤ} {p : Peak} (k : IsPeak n c p) (e : p .alone ≡ true) where
+  mask-alone : Alone n (λ u. natAbs (c u)) (p .mask)
+  mask-alone = rw (k .mask e) (one-alone n (λ u. natAbs (c u)) (eqb-true _ 1 (sym (k .alone) ∙ e)))
+
+  pub peak-below : p .mask < n
+  peak-below = mask-alone .below
+
+  pub peak-size : greatestBelow n (λ u. natAbs (c u)) ≡ natAbs (c (p .mask))
+  peak-size = alone-greatest mask-alone
 
 -- ---- the greatest size of h pairs, and its key
 

@@ -11,7 +11,7 @@ use borrow.Author.Tests.{le-ltb}
 use Rattle.words.specs.Sum.{sumBelowℤ, total}
 use Rattle.words.specs.SumLaws.{sumℤ-ext}
 use Rattle.area.specs.Numbers.{natAbs-add, natAbs-neg}
-use Rattle.hadamard.specs.Correlation.{correlation, sign, signed}
+use Rattle.hadamard.specs.Correlation.{correlation, signed}
 use Rattle.hadamard.specs.CorrelationLaws.{natAbs-signed, swap4}
 use Rattle.peaks.specs.Peaks.{packed, raised, firstOf, secondOf}
 
@@ -111,10 +111,6 @@ module _ (x y : ℤ) (hx : natAbs x ≤ 512) (hy : natAbs y ≤ 512) where
       ap (λ (d : ℕ). pos d -ℤ pos 1024) digit ∙ lifted-back y hy
 
 -- ---- the size of a correlation
-
-pub sign-size : (b : ℕ) → natAbs (sign b) ≡ 1
-sign-size zero = refl
-sign-size (suc b) = refl
 
 sum-size : (n : ℕ) (f : ℕ → ℤ) → ((p : ℕ) → p < n → natAbs (f p) ≤ 1) → natAbs (sumBelowℤ n f) ≤ n
 unfolding total

@@ -4,7 +4,7 @@ use crate::changed;
 use refusals::Decoded;
 use refusals::Refusal;
 ghost use mathlib.Core.Path.{_≡_};
-ghost use Prim.Native.Nat.{ℕ, _≤_, _<_, _^_};
+ghost use Prim.Native.Nat.{ℕ, _*_, _≤_, _<_, _^_};
 ghost use lib.ListN.{length};
 ghost use Rattle.words.specs.Sum.{sumBelow};
 ghost use Rattle.words.specs.Word.{bit};
@@ -46,34 +46,37 @@ pub fn zero_order(m: usize, area: &mut [i32]) -> Told
     changed(Decoded::Accepted(0, 0))
 }
 
-// The reading at order 1 in a part of the area that holds just the word. A word whose greatest absolute correlation is n is a codeword.
+// The reading at order 1 in a part of the area that holds the word and as much again, which is worked in. A word whose greatest absolute
+// correlation is n is a codeword already.
 fn first_order_in(m: usize, part: &mut [i32]) -> Told
-    requires { ⌜ (m ≤ 10) × (length (now part) ≡ 2 ^ m) × Bits (2 ^ m) (now part) ⌝ }
+    requires { ⌜ (1 ≤ m) × (m ≤ 10) × (length (now part) ≡ 2 * 2 ^ m) × Bits (2 ^ m) (now part) ⌝ }
     ensures read { λ t. ⌜ Read (2 ^ m) (order1 m (values (wordOf (2 ^ m) (now (part .entry))))) (now (part .exit)) (t .answer) ⌝ }
     ensures kept { λ t. ⌜ Kept (2 ^ m) (now (part .entry)) (now (part .exit)) t ⌝ }
 {
-    hadamard::signs(part);
-    hadamard::transform::correlate(part, m);
-    let best = hadamard::best(part);
-    let u = best.mask;
-    if !best.alone {
+    let n = words::size(m);
+    let peak = peaks::find_peak(m, part);
+    if !peak.alone {
         return changed(Decoded::Refused(Refusal::Tie, 0, 1));
     }
-    let kept = hadamard::size(part[u]) as usize == part.len();
-    let s = if part[u] < 0 { 1 } else { 0 };
-    hadamard::write_affine(part, u, s);
-    Told {
-        answer: Decoded::Accepted(0, 1),
-        kept,
+    if peak.whole {
+        return Told {
+            answer: Decoded::Accepted(0, 1),
+            kept: true,
+        };
     }
+    let mask = peak.mask;
+    let constant = peak.constant;
+    hadamard::write_affine(&mut part[0..n], mask, constant);
+    changed(Decoded::Accepted(0, 1))
 }
 
 // The reading at order 1.
 pub fn first_order(m: usize, area: &mut [i32]) -> Told
-    requires { ⌜ (1 ≤ m) × (m ≤ 10) × Bits (2 ^ m) (now area) ⌝ }
+    requires { ⌜ (1 ≤ m) × (m ≤ 10) × (2 * 2 ^ m ≤ length (now area)) × Bits (2 ^ m) (now area) ⌝ }
     ensures read { λ t. ⌜ Read (2 ^ m) (order1 m (values (wordOf (2 ^ m) (now (area .entry))))) (now (area .exit)) (t .answer) ⌝ }
     ensures kept { λ t. ⌜ Kept (2 ^ m) (now (area .entry)) (now (area .exit)) t ⌝ }
 {
     let n = words::size(m);
-    first_order_in(m, &mut area[0..n])
+    let e = n + n;
+    first_order_in(m, &mut area[0..e])
 }

@@ -9,7 +9,7 @@ use mir.Syntax.{w32}
 use mir.Val.{ofZ}
 use Rattle.words.specs.Sum.{total, greatestBelow}
 use Rattle.area.specs.Area.{at}
-use Rattle.hadamard.specs.Search.{greatest-more}
+use Rattle.hadamard.specs.Peak.{greatest-more}
 use Rattle.peaks.specs.Peaks.{entrySizes}
 use Rattle.peaks.proofs.Casts.{size-held, size-below, size-above}
 use Rattle.peaks.proofs.greatest.Statement.{statement}

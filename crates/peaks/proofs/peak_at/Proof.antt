@@ -1,7 +1,7 @@
 -- The pair's numbers as the code reads them: its tests of their signs, and for 0.
-use Prim.Native.Nat.{_+_, _<_}
-use mathlib.Core.Path.{_≡_, refl, sym, ap, _∙_, subst}
-use mathlib.Core.Bool.{true, false, not, cond, false≢true}
+use Prim.Native.Nat.{_+_}
+use mathlib.Core.Path.{_≡_, sym, ap, _∙_, subst}
+use mathlib.Core.Bool.{true, false, not, cond}
 use mathlib.Core.Logic.{⊎-elim}
 use native.Mathlib.Omega.{arith}
 use lib.Dec.{T, eqb}
@@ -11,24 +11,15 @@ use mir.Syntax.{w32}
 use mir.Val.{SFits, toZ, ofZ}
 use mir.Facts.{fits-natAbs, fits-ofZ, sfits-toZ, toZ-ofZ}
 use borrow.Author.Needs.{needs}
-use borrow.Author.Tests.{ltb-true, eq-eqb, ne-eqb}
+use borrow.Author.Tests.{eq-eqb, ne-eqb}
 use Rattle.area.specs.Numbers.{byte-number, stored}
 use Rattle.hadamard.specs.Correlation.{constantOf}
+use Rattle.hadamard.specs.CorrelationLaws.{constantOf-lt, constantOf-negative, constantOf-other}
 use Rattle.peaks.specs.Peaks.{alike}
 use Rattle.peaks.proofs.peak_at.Statement.{statement}
 use Rattle.peaks.proofs.peak_at.Tie as tie
-use Rattle.peaks.proofs.peak_at.Reads as reads
-use Rattle.peaks.proofs.peak_at.Lts as lts
 
 -- ---- one number
-
-negative : (x : ℤ) → ltZ x (pos 0) ≡ true → constantOf x ≡ 1
-negative (pos n) e = absurd (omega (arith, ltb-true n 0 e))
-negative (negsuc n) e = refl
-
-not-negative : (x : ℤ) → ltZ x (pos 0) ≡ false → constantOf x ≡ 0
-not-negative (pos n) e = refl
-not-negative (negsuc n) e = absurd (false≢true (sym e))
 
 word-zero : (x : ℤ) → natAbs x ≡ 0 → ofZ w32 x ≡ 0
 word-zero (pos n) e = e
@@ -36,17 +27,13 @@ word-zero (negsuc n) e = absurd (omega arith)
 
 module _ {x : ℤ} (f : SFits w32 x) where
   read-negative : ltZ (stored x) (pos 0) ≡ true → constantOf x ≡ 1
-  read-negative e = negative x (rw (toZ-ofZ f) at e)
+  read-negative e = constantOf-negative x (rw (toZ-ofZ f) at e)
 
   read-not-negative : ltZ (stored x) (pos 0) ≡ false → constantOf x ≡ 0
-  read-not-negative e = not-negative x (rw (toZ-ofZ f) at e)
+  read-not-negative e = constantOf-other x (rw (toZ-ofZ f) at e)
 
   zero-word : ofZ w32 x ≡ 0 → natAbs x ≡ 0
   zero-word e = ap natAbs (sym (toZ-ofZ f) ∙ ap (toZ w32) e)
-
-constant-small : (x : ℤ) → constantOf x < 256
-constant-small (pos n) = omega arith
-constant-small (negsuc n) = omega arith
 
 -- ---- what the branches leave
 
@@ -56,7 +43,7 @@ constant-is c =
     ⊎-elim (λ w. w .1 ∙ sym (read-negative f (w .0 .taken))) (λ w. w .1 ∙ sym (read-not-negative f (w .0 .left))) (c .if1 .came)
 
 constant-read : (c : tie.Joined1) → toZ w32 (c .if1 .constant) ≡ pos (constantOf (c .before .args .x))
-constant-read c = ap (toZ w32) (constant-is c) ∙ byte-number _ (constant-small (c .before .args .x))
+constant-read c = ap (toZ w32) (constant-is c) ∙ byte-number _ (omega (arith, constantOf-lt (c .before .args .x)))
 
 other-is : (c : tie.Joined2) → c .if2 .other ≡ constantOf (c .before .before .args .y)
 other-is c =

@@ -171,7 +171,7 @@ module _ (t : ℕ) where
 
   reading-first-order-requires : Reading t reading-lts.Need-first-order-requires
   reading-first-order-requires c κs = let s = c .before .before .before .before in
-      (s .pre .1 .some, s .pre .1 .small, s .pre .1 .bits)
+      (s .pre .1 .some, s .pre .1 .small, omega (arith, s .pre .1 .room), s .pre .1 .bits)
 
   reading-same-length-2 : Reading t reading-lts.Need-same-length-2
   reading-same-length-2 c = search needs

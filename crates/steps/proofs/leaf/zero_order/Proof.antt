@@ -2,6 +2,7 @@
 use Prim.Native.Nat.{ℕ, _-_, _^_, _≤_}
 use mathlib.Core.Path.{_≡_, sym, _∙_, subst}
 use native.Mathlib.Omega.{arith}
+use lib.ListN.{length}
 use lib.Pow.{pow-mono}
 use borrow.Author.Needs.{needs}
 use Rattle.words.specs.Sum.{sumBelow}
@@ -16,6 +17,12 @@ use Rattle.steps.proofs.leaf.zero_order.Tie as tie
 
 size-is : (c : tie.After-size) → c .size .result - 0 ≡ 2 ^ c .before .args .m
 size-is c = omega (arith, c .size .ensures)
+
+within : (c : tie.After-size) → 2 ^ c .before .args .m ≤ c .size .result - 0
+within c = omega (arith, size-is c)
+
+room : (c : tie.After-size) → c .size .result - 0 ≤ length (c .before .args .area .now)
+room c = omega (arith, size-is c, c .before .pre .1 .room)
 
 counted : (c : tie.After-count-ones) → let a = c .before .before .before .args in
     c .count-ones .result ≡ sumBelow (2 ^ a .m) (bit (wordOf (2 ^ a .m) (a .area .now)))
@@ -72,10 +79,11 @@ returns-2 c =
     let f = c .before .before in
     let n = f .before .before .before .before .before .before in
     let s = n .before in
-    let size = lent-size (s .args .area .now) (size-is n) (s .pre .1 .room) in
+    let long = lent-size (s .args .area .now) (within n) (room n) in
     changed-tells (c .changed2 .ensures)
-    (read-back (s .args .area .now) (size-is n) (s .pre .1 .room) _ (f .fill .kept .0 ∙ size)
-    (zero-zeros (wordOf-word {m = s .args .m} (s .pre .1)) (counted (f .before .before .before .before)) size (omega arith) (f .fill .ensures)))
+    (read-back (s .args .area .now) (within n) (room n) _ (f .fill .kept .0 ∙ long)
+    (zero-zeros (wordOf-word {m = s .args .m} (s .pre .1)) (counted (f .before .before .before .before))
+    (long ∙ size-is n) (omega arith) (f .fill .ensures)))
 
 sub-fill-2 : tie.Need-sub-fill-2
 sub-fill-2 c = search needs
@@ -100,10 +108,11 @@ returns-3 c =
     let f = c .before .before in
     let n = f .before .before .before .before .before .before in
     let s = n .before in
-    let size = lent-size (s .args .area .now) (size-is n) (s .pre .1 .room) in
+    let long = lent-size (s .args .area .now) (within n) (room n) in
     changed-tells (c .changed3 .ensures)
-    (read-back (s .args .area .now) (size-is n) (s .pre .1 .room) _ (f .fill2 .kept .0 ∙ size)
-    (zero-ones (wordOf-word {m = s .args .m} (s .pre .1)) (counted (f .before .before .before .before)) size (omega arith) (f .fill2 .ensures)))
+    (read-back (s .args .area .now) (within n) (room n) _ (f .fill2 .kept .0 ∙ long)
+    (zero-ones (wordOf-word {m = s .args .m} (s .pre .1)) (counted (f .before .before .before .before))
+    (long ∙ size-is n) (omega arith) (f .fill2 .ensures)))
 
 pub zero-order-spec : {M : Type 1} → statement M
 zero-order-spec =
