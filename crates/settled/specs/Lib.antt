@@ -1,4 +1,4 @@
--- Definitions: Numbers. Laws: NumberLaws.
+-- Definitions: Numbers. Laws: NumberLaws, Fours.
 pub mod Numbers
 pub mod NumberLaws
 pub mod Fours
