@@ -31,17 +31,16 @@ pub record Shared (n : ℕ) (f : ℕ → ℕ) : Type 0 where
 -- ---- the greatest
 
 module _ (f : ℕ → ℕ) where
+  pub greatest-more : (n : ℕ) → greatestBelow (n + 1) f ≡ max (greatestBelow n f) (f n)
+  unfolding total
+  greatest-more n = rw add-one
+
   -- it is a bound
   pub greatest-bound : (n i : ℕ) → i < n → f i ≤ greatestBelow n f
   unfolding total
   greatest-bound zero i h = absurd (not-suc-le-zero h)
   greatest-bound (suc n) i h =
       split-last n (λ (j : ℕ). f j ≤ greatestBelow (suc n) f) (λ j l. omega (arith, greatest-bound n j l)) (omega arith) i h
-
-  -- with one place more
-  pub greatest-more : (n : ℕ) → greatestBelow (n + 1) f ≡ max (greatestBelow n f) (f n)
-  unfolding total
-  greatest-more n = rw add-one
 
   -- and it is met
   pub greatest-met : (n : ℕ) → (i : ℕ) × (i < suc n) × (f i ≡ greatestBelow (suc n) f)

@@ -76,7 +76,8 @@ returns-3 c =
     let f = c .before .before in
     let s = f .before .before .before .before in
     let size = ap (λ (j : ℕ). 2 ^ j) (c .if3 .taken) in
-    transformed-all sums (entries s) (fours-done f) (omega (arith, transformed-length sums (entries s) (fours-done f))) ∙ halved-correlation _ _ (s .pre .size)
+    transformed-all sums (entries s) (fours-done f) (omega (arith, transformed-length sums (entries s) (fours-done f)))
+    ∙ halved-correlation _ _ (s .pre .size)
 
 level-requires : tie.Need-level-requires Inv-loop μ-loop
 level-requires c κs =
