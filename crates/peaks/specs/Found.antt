@@ -55,44 +55,44 @@ module _ {n : ℕ} {c : ℕ → ℤ} {p : Peak} (k : IsPeak n c p) (e : p .alone
 
 -- ---- the greatest size of h pairs, and its key
 
-pub record Told (h : ℕ) (x y : ℕ → ℤ) (g : ℤ) (key : ℕ) : Type 0 where
+pub record Searched (h : ℕ) (x y : ℕ → ℤ) (g : ℤ) (key : ℕ) : Type 0 where
   pub some : 0 < h
   pub few : h ≤ 512
   pub greatest : g ≡ pos (greatestBelow h (sizes x y))
   pub keys : key ≡ keysBelow h (sizes x y) (greatestBelow h (sizes x y))
 
-module _ {h : ℕ} {x y : ℕ → ℤ} {g : ℤ} {key : ℕ} (t : Told h x y g key) where
-  pub told-many : {p : Peak} → 131071 < key → p .alone ≡ false → IsPeak (h + h) (joined h x y) p
-  told-many l ea = no-peak (h + h) (joined h x y) (pairs-share h x y (⊎-elim
+module _ {h : ℕ} {x y : ℕ → ℤ} {g : ℤ} {key : ℕ} (t : Searched h x y g key) where
+  pub searched-many : {p : Peak} → 131071 < key → p .alone ≡ false → IsPeak (h + h) (joined h x y) p
+  searched-many l ea = no-peak (h + h) (joined h x y) (pairs-share h x y (⊎-elim
       (λ a. absurd (omega (arith, t .keys, t .few, keys-alone a, a .below)))
       (λ s. s)
       (peak h (sizes x y) (t .some)))) ea
 
   module _ (l : key ≤ 131071) where
-    pub told-one : Alone h (sizes x y) (key % 65536)
-    told-one = ⊎-elim
+    pub searched-one : Alone h (sizes x y) (key % 65536)
+    searched-one = ⊎-elim
         (λ a. subst (Alone h (sizes x y)) (omega (arith, t .keys, t .few, keys-alone a, a .below)) a)
         (λ s. absurd (omega (arith, t .keys, keys-shared s)))
         (peak h (sizes x y) (t .some))
 
-    pub told-place : key % 65536 < h
-    told-place = told-one .below
+    pub searched-place : key % 65536 < h
+    searched-place = searched-one .below
 
     module _ {p : Peak} (k : PeakAt h (key % 65536) g (x (key % 65536)) (y (key % 65536)) p) where
       abbrev j : ℕ
       j = key % 65536
 
       even : (natAbs (x j) ≡ 0) ⊎ (natAbs (y j) ≡ 0) → Shared (h + h) (λ v. natAbs (joined h x y v))
-      even = pair-even h x y j told-place (λ i m. omega (arith, greatest-bound (sizes x y) h i m, alone-greatest told-one))
+      even = pair-even h x y j searched-place (λ i m. omega (arith, greatest-bound (sizes x y) h i m, alone-greatest searched-one))
 
-      pub told-peak : IsPeak (h + h) (joined h x y) p
-      told-peak = elim (ℕ-discrete (natAbs (x j)) 0) [
+      pub searched-peak : IsPeak (h + h) (joined h x y) p
+      searched-peak = elim (ℕ-discrete (natAbs (x j)) 0) [
         | yes e ↦ no-peak (h + h) (joined h x y) (even (inl e)) (k .first e)
         | no nx ↦ elim (ℕ-discrete (natAbs (y j)) 0) [
           | yes e ↦ no-peak (h + h) (joined h x y) (even (inr e)) (k .second e)
           | no ny ↦
-              one-peak (h + h) (joined h x y) (pair-alone h x y j told-one nx ny) (k .alone nx ny) (k .mask)
-              (k .constant ∙ ap pos (sym (greater-sign h x y j told-place)))
+              one-peak (h + h) (joined h x y) (pair-alone h x y j searched-one nx ny) (k .alone nx ny) (k .mask)
+              (k .constant ∙ ap pos (sym (greater-sign h x y j searched-place)))
               (k .whole ∙ ap (λ (v : ℕ). eqb v (h + h)) (ap natAbs (t .greatest) ∙ sym (pairs-greatest h x y)))
         ]
       ]
@@ -127,10 +127,10 @@ module _ {h : ℕ} {xs zs : List ℤ} (k : Packed h xs) (s : Held h (λ i. sizeO
       each : (i : ℕ) → i < length zs → at zs i ≡ pos (sizeOf (at xs i))
       each i l = s .each i (below l)
 
-  pub held-told :
+  pub held-searched :
       {g : ℤ} {key : ℕ} → g ≡ pos (greatestBelow (length zs) (entrySizes zs)) → key ≡ keysBelow (length zs) (entrySizes zs) (natAbs g)
-      → Told h (λ i. firstOf (at xs i)) (λ i. secondOf (at xs i)) g key
-  held-told {g} eg ek = record {
+      → Searched h (λ i. firstOf (at xs i)) (λ i. secondOf (at xs i)) g key
+  held-searched {g} eg ek = record {
     some = k .some;
     few = k .few;
     greatest = eg ∙ ap pos best;

@@ -11,7 +11,7 @@ use Rattle.area.specs.Area.{at}
 use Rattle.area.specs.Numbers.{stored, stored-eq}
 use Rattle.peaks.specs.Peaks.{firstOf, secondOf, sizeOf, PeakAt}
 use Rattle.peaks.specs.declared.Peak.{Peak}
-use Rattle.peaks.specs.Found.{Held, held-sizes, held-told, sizes-held, Told, told-many, told-peak, told-place}
+use Rattle.peaks.specs.Found.{Held, held-sizes, held-searched, sizes-held, Searched, searched-many, searched-peak, searched-place}
 use Rattle.peaks.proofs.search.Statement.{statement}
 use Rattle.peaks.proofs.search.Tie as tie
 use Rattle.peaks.proofs.search.Reads as reads
@@ -51,15 +51,15 @@ sizes-at c = sizes-held (c .before .before .pre) (c .pair-sizes .ensures)
 
 -- the greatest and its key
 told : (c : tie.After-keys) → let g = c .before .before .before in let a = g .before .before .before .before .before .before .args in
-    Told (a .h) (λ i. firstOf (at (a .part .now) i)) (λ i. secondOf (at (a .part .now) i)) (g .greatest .result) (c .keys .result)
+    Searched (a .h) (λ i. firstOf (at (a .part .now) i)) (λ i. secondOf (at (a .part .now) i)) (g .greatest .result) (c .keys .result)
 told c =
     let g = c .before .before .before in
     let p = g .before .before .before .before in
-    held-told (p .before .before .pre) (sizes-at p) (g .greatest .ensures) (rw (as-it-is (g .greatest .ok)) at (c .keys .ensures))
+    held-searched (p .before .before .pre) (sizes-at p) (g .greatest .ensures) (rw (as-it-is (g .greatest .ok)) at (c .keys .ensures))
 
 below : (c : tie.Else1) → let s = c .before .before .before .before .before .before .before .before .before .before in
     c .before .keys .result % 65536 < s .args .h
-below c = told-place (told (c .before)) (c .if1 .left)
+below c = searched-place (told (c .before)) (c .if1 .left)
 
 -- the pair, which the sizes left as it was
 pair-read : (c : tie.Else1) →
@@ -139,7 +139,7 @@ same-length : tie.Need-same-length
 same-length c = search needs
 
 returns : tie.Need-returns
-returns c = told-many (told (c .before)) (c .if1 .taken) refl
+returns c = searched-many (told (c .before)) (c .if1 .taken) refl
 
 cast-j : tie.Need-cast-j
 cast-j c = search needs
@@ -175,7 +175,7 @@ returns-2 c =
     let e = c .before .before .before .before in
     let k = e .before in
     let g = k .before .before .before in
-    told-peak (told k) (e .if1 .left)
+    searched-peak (told k) (e .if1 .left)
     (peak-as (as-it-is (g .greatest .ok)) (first-is (c .before .before)) (second-is (c .before)) (c .peak-at .ensures))
 
 pub search-spec : {M : Type 1} → statement M
