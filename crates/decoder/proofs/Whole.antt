@@ -29,7 +29,7 @@ use Rattle.rule.specs.DecodingLaws.{after-cases, buffers-passed}
 use Rattle.rule.specs.ProfileLaws.{profile-code, profile-passes}
 use Rattle.rule.specs.Calls.{Decodes, valuesOf}
 use Rattle.rule.specs.Counts.{reading-noise}
-use Rattle.steps.specs.Steps.{Holds, Read}
+use Rattle.leaves.specs.Leaves.{Holds, Read}
 use Rattle.readings.specs.Readings.{Ready}
 use Rattle.decoder.specs.Runs.{Deliverable, delivered, Runs}
 use Rattle.readings.specs.Answers.{Late, by-answer, limited-late}

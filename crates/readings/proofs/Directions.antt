@@ -29,8 +29,9 @@ use Rattle.rule.specs.Decoding.{limited, answerOf}
 use Rattle.rule.specs.DecodingLaws.{limited-within}
 use Rattle.rule.specs.Calls.{valuesOf}
 use Rattle.rule.specs.Counts.{reading-noise}
-use Rattle.steps.specs.Steps.{countIn, voteOf, Voter, Unmoved, Holds, Read, Kept}
-use Rattle.steps.specs.declared.Told.{Told}
+use Rattle.leaves.specs.Leaves.{Holds, Read, Kept}
+use Rattle.leaves.specs.declared.Told.{Told}
+use Rattle.steps.specs.Steps.{countIn, voteOf, Voter, Unmoved}
 use Rattle.steps.specs.declared.Count.{Count}
 use Rattle.steps.specs.declared.Count.the-variants.{Done, Exhausted}
 use Rattle.readings.specs.Readings.{countOf, Ready, Voted}

@@ -27,7 +27,8 @@ use Rattle.rule.specs.Counts.{Leaf, reading-leaf, round-least}
 use Rattle.rule.specs.Decoding.{limited}
 use Rattle.rule.specs.DecodingLaws.{limited-within}
 use Rattle.rule.specs.Calls.{valuesOf}
-use Rattle.steps.specs.Steps.{flipOf, Read}
+use Rattle.leaves.specs.Leaves.{Read}
+use Rattle.steps.specs.Steps.{flipOf}
 use Rattle.steps.specs.declared.Count.{Count}
 use Rattle.steps.specs.declared.Count.the-variants.{Done, Exhausted}
 use Rattle.readings.specs.Readings.{Ready, Voted}

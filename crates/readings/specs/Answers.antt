@@ -18,7 +18,8 @@ use Rattle.rule.specs.Decoding.{limited, answerOf}
 use Rattle.rule.specs.DecodingLaws.{limited-above, limited-within, limited-cases}
 use Rattle.rule.specs.Calls.{valuesOf}
 use Rattle.rule.specs.Counts.{Noise}
-use Rattle.steps.specs.Steps.{countIn, Holds, Read}
+use Rattle.leaves.specs.Leaves.{Holds, Read}
+use Rattle.steps.specs.Steps.{countIn}
 use Rattle.steps.specs.declared.Count.{Count}
 use Rattle.steps.specs.declared.Count.the-variants.{Done, Exhausted}
 use Rattle.readings.specs.Readings.{countOf}

@@ -1,15 +1,15 @@
 // Readings and rounds, each starting the other, the order falling.
 // A reading at exponent m has its word in the first 2^m numbers of its area; above order 1 the next 2^m are votes, and what is left is
 // lent to the readings one order lower.
+use leaves::Told;
+use leaves::changed;
+use leaves::first_order;
+use leaves::zero_order;
 use refusals::Decoded;
 use refusals::Refusal;
 use steps::Count;
-use steps::Told;
-use steps::changed;
-use steps::leaf::first_order;
-use steps::leaf::zero_order;
-use steps::vote::cast;
-use steps::vote::flip;
+use steps::cast;
+use steps::flip;
 ghost use mathlib.Core.Path.{_≡_};
 ghost use mathlib.Core.Bool.{true, cond};
 ghost use Prim.Native.Nat.{ℕ, suc, _+_, _*_, _^_, _≤_, _<_};
@@ -18,7 +18,7 @@ ghost use Rattle.code.specs.Code.{codewordTest};
 ghost use Rattle.area.specs.Area.{Bits, SameFront, wordOf};
 ghost use Rattle.rule.specs.Reading;
 ghost use Rattle.rule.specs.Decoding.{limited};
-ghost use Rattle.steps.specs.Steps.{Read, Kept};
+ghost use Rattle.leaves.specs.Leaves.{Read, Kept};
 ghost use Rattle.readings.specs.Readings.{Ready, Voted};
 
 // The answer for a word that no round changes: after one round it is the word given.

@@ -1,3 +1,2 @@
--- What the functions ask and promise: Steps. Laws: StepLaws.
+-- What the functions ask and promise: Steps.
 pub mod Steps
-pub mod StepLaws

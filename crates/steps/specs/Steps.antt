@@ -1,4 +1,4 @@
--- What the steps of a reading ask and promise. Assumes nothing.
+-- What a direction's votes and a round's flips ask and promise. Assumes nothing.
 use Prim.Native.Nat.{ℕ, suc, _+_, _-_, _^_, _<_}
 use mathlib.Core.Path.{_≡_}
 use mathlib.Core.Bool.{true, cond}
@@ -6,30 +6,15 @@ use mathlib.Core.List.{List}
 use lib.Dec.{eqb}
 use lib.IntN.{ℤ, natAbs}
 use Rattle.words.specs.Word.{indicator}
-use Rattle.area.specs.Area.{at, Front, SameFront}
+use Rattle.area.specs.Area.{at}
 use Rattle.refusals.specs.declared.Decoded.{Decoded}
 use Rattle.refusals.specs.declared.Decoded.the-variants.{Accepted, Refused}
 use Rattle.cosets.specs.Votes.{InProjection, castVote}
-use Rattle.rule.specs.Reading.{Outcome, accepted, refused, flipped}
-use Rattle.rule.specs.Decoding.{Values, values, answerOf}
-use Rattle.rule.specs.Calls.{valuesOf}
+use Rattle.rule.specs.Reading.{flipped}
+use Rattle.rule.specs.Decoding.{Values, values}
+use Rattle.leaves.specs.declared.Told.{Told}
 use Rattle.steps.specs.declared.Count.{Count}
 use Rattle.steps.specs.declared.Count.the-variants.{Done, Exhausted}
-use Rattle.steps.specs.declared.Told.{Told}
-
--- the decoded word stands in the first n numbers, where there is one
-abbrev pub Holds : ℕ → Outcome → List ℤ → Type 0
-Holds n (accepted d k l) ys = Front n d ys
-Holds n (refused e k l) ys = Unit {0}
-
--- what a reading leaves, for the outcome o
-pub record Read (n : ℕ) (o : Outcome) (ys : List ℤ) (a : Decoded) : Type 0 where
-  pub said : valuesOf a ≡ answerOf o
-  pub word : Holds n o ys
-
--- where a reading says so, the first n numbers are after it what they were
-pub record Kept (n : ℕ) (xs ys : List ℤ) (t : Told) : Type 0 where
-  pub same : t .kept ≡ true → SameFront n xs ys
 
 -- the count that an answer brings: none where its leaves ran out
 abbrev pub countIn : Values → Count

@@ -12,12 +12,12 @@ use borrow.Rule.Slice.PartMut.{putMid}
 use Rattle.words.proofs.size.Reads as size-reads
 use Rattle.area.proofs.fill.Reads as fill-reads
 use Rattle.projections.proofs.project.Reads as project-reads
-use Rattle.steps.proofs.leaf.first_order.Reads as first-order-reads
-use Rattle.steps.proofs.leaf.zero_order.Reads as zero-order-reads
-use Rattle.steps.proofs.changed.Reads as changed-reads
-use Rattle.steps.proofs.vote.cast.Reads as cast-reads
-use Rattle.steps.proofs.vote.flip.Reads as flip-reads
-use Rattle.steps.specs.StepLaws.{changed-tells}
+use Rattle.leaves.proofs.first_order.Reads as first-order-reads
+use Rattle.leaves.proofs.zero_order.Reads as zero-order-reads
+use Rattle.leaves.proofs.changed.Reads as changed-reads
+use Rattle.leaves.specs.LeafLaws.{changed-tells}
+use Rattle.steps.proofs.cast.Reads as cast-reads
+use Rattle.steps.proofs.flip.Reads as flip-reads
 use Rattle.readings.proofs.Directions.{Round, Poll, Zeroed, Stage, Lent, Answered, Cast, From, round-of, start-long, start-from, start-poll, stage-projects, lent-ready, answered-cast, cast-front, cast-long, cast-over, cast-few, cast-more, poll-done, poll-spent}
 use Rattle.readings.proofs.Turns.{Series, Turn, Made, Flips, series, turn-first, turn-last, turn-exhausted, ready-round, made-few, made-flips, flips-bits, flips-again, flips-settled, flips-kept, read-zero, read-one, read-none}
 use Rattle.readings.proofs.settle.Reads as settle-reads
