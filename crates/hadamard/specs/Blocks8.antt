@@ -100,22 +100,22 @@ module _ {u : ℕ} {s : ℤ} {b : ℕ} {a : List ℤ} (w : Affine u s b a) where
   repeats i bt l room = record { added = bt; source = omega arith; room = room; bits = λ j lj. affine-bit (i + j) (omega arith) }
 
   repeated-is :
-      (k i : ℕ) {t : ℤ} → k % 8 ≡ 0 → i < 8 → t ≡ pos (ones (bitAnd u k) % 2) → i < b
+      (h k i : ℕ) {t : ℤ} → k % 2 ^ h ≡ 0 → i < 2 ^ h → t ≡ pos (ones (bitAnd u k) % 2) → i < b
       → pos ((natAbs (at a i) + natAbs t) % 2) ≡ affineAt u s (k + i)
-  repeated-is k i e l et lb = rw (w .each i lb, et, ones-block 3 u k i e l) (ap pos (simp (mod-add-mod, add-mod-mod) (omega arith)))
+  repeated-is h k i e l et lb = rw (w .each i lb, et, ones-block h u k i e l) (ap pos (simp (mod-add-mod, add-mod-mod) (omega arith)))
 
-  -- half a block more: b is place i of the block at k
+  -- four places more: b is place i of the block of 2 ^ h at k
   pub affine-more :
-      {z : List ℤ} (k i : ℕ) {t : ℤ} → k % 8 ≡ 0 → b ≡ k + i → i + 4 ≤ 8 → i + 4 ≤ b → t ≡ pos (ones (bitAnd u k) % 2)
+      {z : List ℤ} (h k i : ℕ) {t : ℤ} → k % 2 ^ h ≡ 0 → b ≡ k + i → i + 4 ≤ 2 ^ h → i + 4 ≤ b → t ≡ pos (ones (bitAnd u k) % 2)
       → Written (pos 0) b 4 (repeated t i a) a z → (e : ℕ) → e ≡ b + 4 → Affine u s e z
-  affine-more {z} k i e eb l lb et v n en = record {
+  affine-more {z} h k i e eb l lb et v n en = record {
     each = λ p lp. elim (decLt p b) [
-      | yes h ↦ v .below p h ∙ w .each p h
-      | no h ↦
+      | yes q ↦ v .below p q ∙ w .each p q
+      | no q ↦
           let j : b + (p - b) ≡ p = omega arith in
           let c : k + (i + (p - b)) ≡ p = omega arith in
           subst (λ (q : ℕ). at z q ≡ affineAt u s p) j
-          (v .within (p - b) (omega arith) ∙ repeated-is k (i + (p - b)) e (omega arith) et (omega arith) ∙ ap (affineAt u s) c)
+          (v .within (p - b) (omega arith) ∙ repeated-is h k (i + (p - b)) e (omega arith) et (omega arith) ∙ ap (affineAt u s) c)
     ];
   }
 

@@ -46,7 +46,8 @@ fn repeat_four(a: &mut [i32], i: usize, b: usize, t: i32)
     a[b + 3] = x3;
 }
 
-// The first order codeword of mask u and constant s: a parity for each of the first 8 places, and one for each further block of 8.
+// The first order codeword of mask u and constant s: a parity for each of the first 4 places, one for the next 4, and one for each further
+// block of 8.
 pub fn write_affine(a: &mut [i32], u: usize, s: i32)
     requires { ⌜ IsBit s × (u < 1024) ⌝ }
     ensures { λ _. ⌜ now (a .exit) ≡ tabulate (length (now (a .entry))) (λ p. pos ((natAbs s + ones (bitAnd u p)) % 2)) ⌝ }
@@ -59,7 +60,8 @@ pub fn write_affine(a: &mut [i32], u: usize, s: i32)
         by_place(a, u, s);
         return;
     }
-    by_place(&mut a[0..8], u, s);
+    by_place(&mut a[0..4], u, s);
+    repeat_four(a, 0, 4, parity(u & 4));
     let mut b = 8;
     while b != n {
         let t = parity(u & b);

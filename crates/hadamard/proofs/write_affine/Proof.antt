@@ -1,4 +1,4 @@
--- `hadamard::write_affine` meets its contract: each turn of the loop writes one block of 8 places. Assumes nothing.
+-- `hadamard::write_affine` meets its contract: four places by parity, four more, and each turn of the loop writes one block of 8. Assumes nothing.
 use Prim.Native.Nat.{_+_, _-_, _%_, _^_, _≤_, _<_}
 use mathlib.Core.Path.{_≡_, refl, ap, _∙_}
 use native.Mathlib.Omega.{arith}
@@ -9,6 +9,7 @@ use lib.ListN.{length}
 use lib.IntN.{ℤ, pos}
 use mir.Syntax.{w32}
 use mir.Val.{toZ}
+use borrow.Rule.Slice.PartMut.{putMid}
 use Rattle.words.specs.Sum.{tabulate}
 use Rattle.words.specs.Parts.{front-length, back-length}
 use Rattle.area.specs.Area.{IsBit}
@@ -55,45 +56,80 @@ part-by-place-end c = omega arith
 by-place-requires-2 : tie.Need-by-place-requires-2 Inv-loop μ-loop
 by-place-requires-2 c κs = asks (c .before .before .before)
 
-loop-holds : tie.Need-loop-holds Inv-loop μ-loop
-loop-holds c =
+-- ---- the first block
+
+first-room : (c : tie.Else2 Inv-loop μ-loop) → 8 ≤ length (c .before .before .args .a .now)
+first-room c = omega arith
+
+first-length : (c : tie.After-a2 Inv-loop μ-loop) → let a = c .before .before .before .before .before .args .a .now in
+    length (putMid 0 4 a (c .before .by-place2 .last .0)) ≡ length a
+first-length c =
     let a = c .before .before .before .before .before .args .a .now in
-    let room : 8 ≤ length a = omega arith in
-    let size = front-length 8 a room in (
-      refl,
-      omega arith,
-      room,
-      back-length (pos 0) 0 8 a room (c .before .by-place2 .last .0) (c .before .by-place2 .kept .0 ∙ size),
-      affine-front a room (rw size at (c .before .by-place2 .ensures)),
-    )
+    let room : 4 ≤ length a = omega (arith, first-room (c .before .before .before)) in
+    back-length (pos 0) 0 4 a room (c .before .by-place2 .last .0) (c .before .by-place2 .kept .0 ∙ front-length 4 a room)
+
+-- the first four places
+first-four : (c : tie.After-a2 Inv-loop μ-loop) → let s = c .before .before .before .before .before .args in
+    Affine (s .u) (stored (s .s)) 4 (putMid 0 4 (s .a .now) (c .before .by-place2 .last .0))
+first-four c =
+    let a = c .before .before .before .before .before .args .a .now in
+    let room : 4 ≤ length a = omega (arith, first-room (c .before .before .before)) in
+    affine-front a room (rw (front-length 4 a room) at (c .before .by-place2 .ensures))
 
 parity-requires : tie.Need-parity-requires Inv-loop μ-loop
-parity-requires c κs = omega (arith, and-le-l (c .before .before .before .before .before .before .before .args .u) (c .before .loop .b))
+parity-requires c κs = omega (arith, and-le-l (c .before .before .before .before .before .before .args .u) 4)
 
--- the block's parity, as the calls are given it
-added : (c : tie.After-parity Inv-loop μ-loop) → let s = c .before .before .before .before .before .before .before .before .args in
-    stored (c .parity .result) ≡ pos (ones (bitAnd (s .u) (c .before .before .loop .b)) % 2)
-added c = bit-back (parity-bit _ (c .parity .ensures)) ∙ c .parity .ensures
+first-added : (c : tie.After-parity Inv-loop μ-loop) → let s = c .before .before .before .before .before .before .before .args in
+    stored (c .parity .result) ≡ pos (ones (bitAnd (s .u) 4) % 2)
+first-added c = bit-back (parity-bit _ (c .parity .ensures)) ∙ c .parity .ensures
 
 repeat-four-requires : tie.Need-repeat-four-requires Inv-loop μ-loop
 repeat-four-requires c κs =
+    let a = c .before .before in
+    repeats (first-four a) 0 (parity-bit _ (first-added c)) (omega arith) (omega (arith, first-length a, first-room (a .before .before .before)))
+
+loop-holds : tie.Need-loop-holds Inv-loop μ-loop
+loop-holds c =
+    let f = c .before .before .before .before in
+    let w = c .before .repeat-four .ensures in (
+      refl,
+      omega arith,
+      first-room (f .before .before .before),
+      w .long ∙ first-length f,
+      affine-more (first-four f) 2 4 0 refl refl (omega arith) (omega arith) (first-added (c .before .before)) w 8 refl,
+    )
+
+-- ---- the loop
+
+abbrev start : tie.At-loop Inv-loop μ-loop → tie.Start Inv-loop μ-loop
+start c = c .before .before .before .before .before .before .before .before .before .before
+
+parity-requires-2 : tie.Need-parity-requires-2 Inv-loop μ-loop
+parity-requires-2 c κs = omega (arith, and-le-l (start (c .before) .args .u) (c .before .loop .b))
+
+-- the block's parity, as the calls are given it
+added : (c : tie.After-parity2 Inv-loop μ-loop) → let l = c .before .before in
+    stored (c .parity2 .result) ≡ pos (ones (bitAnd (start l .args .u) (l .loop .b)) % 2)
+added c = bit-back (parity-bit _ (c .parity2 .ensures)) ∙ c .parity2 .ensures
+
+repeat-four-requires-2 : tie.Need-repeat-four-requires-2 Inv-loop μ-loop
+repeat-four-requires-2 c κs =
     repeats (c .before .before .before .loop .inv .4) 0 (parity-bit _ (added (c .before))) (omega arith) (omega arith)
 
 -- half of the block is written
-half : (c : tie.After-a3 Inv-loop μ-loop) → let l = c .before .before .before .before .before in
-    let s = l .before .before .before .before .before .before .args in
-    Affine (s .u) (stored (s .s)) (l .loop .b + 4) (c .before .repeat-four .last .0)
+half : (c : tie.After-a4 Inv-loop μ-loop) → let l = c .before .before .before .before .before in
+    Affine (start l .args .u) (stored (start l .args .s)) (l .loop .b + 4) (c .before .repeat-four2 .last .0)
 half c =
     let l = c .before .before .before .before .before .loop in
     let t = added (c .before .before .before) in
-    let w = c .before .repeat-four .ensures in
-    affine-more (l .inv .4) (l .b) 0 (l .inv .0) (omega arith) (omega arith) (omega arith) t w (l .b + 4) refl
+    let w = c .before .repeat-four2 .ensures in
+    affine-more (l .inv .4) 3 (l .b) 0 (l .inv .0) (omega arith) (omega arith) (omega arith) t w (l .b + 4) refl
 
 add-repeat-four : tie.Need-add-repeat-four Inv-loop μ-loop
 add-repeat-four c = search needs
 
-repeat-four-requires-2 : tie.Need-repeat-four-requires-2 Inv-loop μ-loop
-repeat-four-requires-2 c κs =
+repeat-four-requires-3 : tie.Need-repeat-four-requires-3 Inv-loop μ-loop
+repeat-four-requires-3 c κs =
     repeats (half (c .before)) 4 (parity-bit _ (added (c .before .before .before .before))) (omega arith) (omega arith)
 
 add-b : tie.Need-add-b Inv-loop μ-loop
@@ -105,13 +141,13 @@ loop-less c = omega arith
 loop-again : tie.Need-loop-again Inv-loop μ-loop
 loop-again c =
     let l = c .before .before .before .before .before .before .before .before .loop in
-    let w = c .before .repeat-four2 .ensures in
+    let w = c .before .repeat-four3 .ensures in
     let t = added (c .before .before .before .before .before .before) in (
       omega arith,
       omega arith,
       omega arith,
-      w .long ∙ c .before .before .before .before .repeat-four .ensures .long ∙ l .inv .3,
-      affine-more (half (c .before .before .before)) (l .b) 4 (l .inv .0) refl (omega arith) (omega arith) t w (l .b + 8) (omega arith),
+      w .long ∙ c .before .before .before .before .repeat-four2 .ensures .long ∙ l .inv .3,
+      affine-more (half (c .before .before .before)) 3 (l .b) 4 (l .inv .0) refl (omega arith) (omega arith) t w (l .b + 8) (omega arith),
     )
 
 same-length-2 : tie.Need-same-length-2 Inv-loop μ-loop
@@ -119,7 +155,7 @@ same-length-2 c = omega arith
 
 returns-3 : tie.Need-returns-3 Inv-loop μ-loop
 returns-3 c =
-    let s = c .before .before .before .before .before .before .before in
+    let s = start (c .before) in
     let n = length (s .args .a .now) in
     affine-all (c .before .loop .inv .4) n (omega arith) (omega arith)
     ∙ ap (λ (z : ℤ). tabulate n (affineAt (s .args .u) z)) (bit-back (s .pre .0))
@@ -138,11 +174,13 @@ write-affine-spec =
     part-by-place-start
     part-by-place-end
     by-place-requires-2
-    loop-holds
     parity-requires
     repeat-four-requires
-    add-repeat-four
+    loop-holds
+    parity-requires-2
     repeat-four-requires-2
+    add-repeat-four
+    repeat-four-requires-3
     add-b
     loop-less
     loop-again
