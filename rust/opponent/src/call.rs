@@ -30,6 +30,14 @@ pub fn check_code(m: usize, r: usize) -> u8 {
     }
 }
 
+/// 1, 2 and 5 for a word by itself, or 0.
+pub fn check_word(m: usize, r: usize, length: usize) -> u8 {
+    match check_code(m, r) {
+        0 if length != 1 << m => 5,
+        refusal => refusal,
+    }
+}
+
 /// 5 and 6, or 0.
 pub fn check_lengths(input: usize, right_input: usize, out: usize, right_out: usize) -> u8 {
     if input != right_input {

@@ -1,6 +1,6 @@
 //! Encoder, message reader and codeword test.
 
-use crate::call::{check_code, check_lengths, Answer};
+use crate::call::{check_code, check_lengths, check_word, Answer};
 use crate::message::{coefficients, message};
 use crate::word::{self, has_order, numbers, pack, transform, unpack};
 
@@ -71,12 +71,9 @@ pub fn read_message(m: usize, r: usize, word: &[u8], out: &mut [u8]) -> Answer {
 
 /// Yes is 1 in the rounds.
 pub fn is_codeword(m: usize, r: usize, word: &[u8]) -> Answer {
-    match check_code(m, r) {
+    match check_word(m, r, word.len()) {
         0 => {}
         refusal => return Answer::refused(refusal),
-    }
-    if word.len() != 1 << m {
-        return Answer::refused(5);
     }
     let mut packed = [0; 16];
     if let Err(place) = pack(word, &mut packed) {

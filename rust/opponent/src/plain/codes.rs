@@ -1,6 +1,6 @@
 //! Encoder, message reader and codeword test with one byte for each place, and the transform level by level.
 
-use crate::call::{check_code, check_lengths, Answer};
+use crate::call::{check_code, check_lengths, check_word, Answer};
 
 /// The codeword of a message.
 pub fn encode(m: usize, r: usize, message: &[u8], out: &mut [u8]) -> Answer {
@@ -50,12 +50,9 @@ pub fn read_message(m: usize, r: usize, word: &[u8], out: &mut [u8]) -> Answer {
 
 /// Yes is 1 in the rounds.
 pub fn is_codeword(m: usize, r: usize, word: &[u8]) -> Answer {
-    match check_code(m, r) {
+    match check_word(m, r, word.len()) {
         0 => {}
         refusal => return Answer::refused(refusal),
-    }
-    if word.len() != 1 << m {
-        return Answer::refused(5);
     }
     if let Some(place) = bad_byte(word) {
         return Answer::bad_byte(place);
