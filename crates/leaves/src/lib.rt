@@ -69,7 +69,7 @@ fn first_order_in(m: usize, part: &mut [i32]) -> Told
     ensures kept { λ t. ⌜ Kept (2 ^ m) (now (part .entry)) (now (part .exit)) t ⌝ }
 {
     let n = words::size(m);
-    let peak = peaks::find_peak(m, part);
+    let peak = nearest::find_peak(m, part);
     if !peak.alone {
         return changed(Decoded::Refused(Refusal::Tie, 0, 1));
     }

@@ -121,10 +121,7 @@ pub pair-read :
     {h i : ℕ} {f : ℕ → ℤ} {xs ys : List ℤ} → Packed h xs → Written (pos 0) h i f xs ys → i < h → stored (at ys i) ≡ at xs i
 pair-read {i = i} {ys = ys} p w l = let e = w .below i l in stored-eq (at ys i) (rw e (omega (arith, p .small i l))) ∙ e
 
--- one of its numbers, which is y
-pub number-read : {x y : ℤ} → x ≡ y → natAbs y ≤ 512 → stored x ≡ y
-number-read {x} e h = stored-eq x (rw e (omega arith)) ∙ e
-
+-- one of its numbers
 pub number-small : {x y : ℤ} → x ≡ y → natAbs y ≤ 512 → natAbs x < 2 ^ 31
 number-small e h = rw e (omega arith)
 

@@ -99,46 +99,51 @@ module _ {h : ℕ} {x y : ℕ → ℤ} {g : ℤ} {key : ℕ} (t : Searched h x y
 
 -- ---- the sizes in a list
 
--- zs holds the h numbers s 0, .., s (h - 1)
-pub record Held (h : ℕ) (s : ℕ → ℕ) (zs : List ℤ) : Type 0 where
+-- zs holds the sizes of the h pairs x i, y i
+pub record Held (h : ℕ) (x y : ℕ → ℤ) (zs : List ℤ) : Type 0 where
   pub long : length zs ≡ h
-  pub each : (i : ℕ) → i < h → at zs i ≡ pos (s i)
+  pub each : (i : ℕ) → i < h → at zs i ≡ pos (sizes x y i)
 
--- the pairs' sizes, written after them, as the code takes `[h..h + h]`
-pub sizes-held :
-    {h : ℕ} {xs ys : List ℤ} → Packed h xs → Written (pos 0) h h (λ i. pos (sizeOf (at xs i))) xs ys
-    → Held h (λ i. sizeOf (at xs i)) (take ((h + h) - h) (drop h ys))
-sizes-held {h} {ys = ys} k w =
-    let room : h + h ≤ length ys = omega (arith, w .long, k .size) in
-    let all : (h + h) - h ≡ h = omega arith in
-    rw all (record { long = part-length (pos 0) h h ys room; each = λ i l. part-at (pos 0) h h ys room i l ∙ w .within i l })
-
-module _ {h : ℕ} {xs zs : List ℤ} (k : Packed h xs) (s : Held h (λ i. sizeOf (at xs i)) zs) where
-  pub held-sizes : Sizes zs
-  held-sizes = record {
-    few = omega (arith, s .long, k .few);
+module _ {h : ℕ} {x y : ℕ → ℤ} {zs : List ℤ} (few : h ≤ 512) (s : Held h x y zs) where
+  pub held-sizes : ((i : ℕ) → i < h → sizes x y i ≤ 1024) → Sizes zs
+  held-sizes small = record {
+    few = omega (arith, s .long);
     whole = λ i l. each i l ∙ ap (λ (z : ℤ). pos (natAbs z)) (sym (each i l));
-    small = λ i l. omega (arith, ap natAbs (each i l), k .first i (below l), k .second i (below l));
+    small = λ i l. omega (arith, ap natAbs (each i l), small i (below l));
   }
     where
       below : {i : ℕ} → i < length zs → i < h
       below l = omega (arith, s .long)
 
-      each : (i : ℕ) → i < length zs → at zs i ≡ pos (sizeOf (at xs i))
+      each : (i : ℕ) → i < length zs → at zs i ≡ pos (sizes x y i)
       each i l = s .each i (below l)
 
   pub held-searched :
-      {g : ℤ} {key : ℕ} → g ≡ pos (greatestBelow (length zs) (entrySizes zs)) → key ≡ keysBelow (length zs) (entrySizes zs) (natAbs g)
-      → Searched h (λ i. firstOf (at xs i)) (λ i. secondOf (at xs i)) g key
-  held-searched {g} eg ek = record {
-    some = k .some;
-    few = k .few;
+      {g : ℤ} {key : ℕ} → 0 < h → g ≡ pos (greatestBelow (length zs) (entrySizes zs))
+      → key ≡ keysBelow (length zs) (entrySizes zs) (natAbs g) → Searched h x y g key
+  held-searched some eg ek = record {
+    some = some;
+    few = few;
     greatest = eg ∙ ap pos best;
     keys = ek ∙ ap₂ (λ (n b : ℕ). keysBelow n (entrySizes zs) b) (s .long) (ap natAbs eg ∙ best) ∙ keys-ext h _ _ _ same;
   }
     where
-      same : (i : ℕ) → i < h → entrySizes zs i ≡ sizeOf (at xs i)
+      same : (i : ℕ) → i < h → entrySizes zs i ≡ sizes x y i
       same i l = ap natAbs (s .each i l)
 
-      best : greatestBelow (length zs) (entrySizes zs) ≡ greatestBelow h (λ i. sizeOf (at xs i))
+      best : greatestBelow (length zs) (entrySizes zs) ≡ greatestBelow h (sizes x y)
       best = ap (λ (n : ℕ). greatestBelow n (entrySizes zs)) (s .long) ∙ total-ext max 0 h _ _ same
+
+-- ---- the sizes of packed pairs
+
+-- written after them, as the code takes `[h..h + h]`
+pub sizes-held :
+    {h : ℕ} {xs ys : List ℤ} → Packed h xs → Written (pos 0) h h (λ i. pos (sizeOf (at xs i))) xs ys
+    → Held h (λ i. firstOf (at xs i)) (λ i. secondOf (at xs i)) (take ((h + h) - h) (drop h ys))
+sizes-held {h} {ys = ys} k w =
+    let room : h + h ≤ length ys = omega (arith, w .long, k .size) in
+    let all : (h + h) - h ≡ h = omega arith in
+    rw all (record { long = part-length (pos 0) h h ys room; each = λ i l. part-at (pos 0) h h ys room i l ∙ w .within i l })
+
+pub sizes-small : {h : ℕ} {xs : List ℤ} → Packed h xs → (i : ℕ) → i < h → sizeOf (at xs i) ≤ 1024
+sizes-small k i l = omega (arith, k .first i l, k .second i l)

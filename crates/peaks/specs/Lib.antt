@@ -5,3 +5,4 @@ pub mod Pairs
 pub mod Keys
 pub mod Found
 pub mod Packing
+pub mod Stored

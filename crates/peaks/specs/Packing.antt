@@ -13,7 +13,7 @@ use Rattle.words.specs.SumLaws.{sumℤ-ext}
 use Rattle.area.specs.Numbers.{natAbs-add, natAbs-neg}
 use Rattle.hadamard.specs.Correlation.{correlation, signed}
 use Rattle.hadamard.specs.CorrelationLaws.{natAbs-signed, swap4}
-use Rattle.peaks.specs.Peaks.{packed, raised, firstOf, secondOf}
+use Rattle.peaks.specs.Peaks.{packedBy, packed, raised, firstOf, secondOf}
 
 -- ---- a number k times
 
@@ -57,30 +57,32 @@ module _ (k : ℕ) where
 
 -- ---- sums of pairs
 
-packed-sum : (a b c d : ℤ) → packed a b +ℤ packed c d ≡ packed (a +ℤ c) (b +ℤ d)
-packed-sum a b c d = swap4 a (scaled 2048 b) c (scaled 2048 d) ∙ ap (λ (z : ℤ). a +ℤ c +ℤ z) (sym (scaled-sum 2048 b d))
+module _ (k : ℕ) where
+  pub packed-sum : (a b c d : ℤ) → packedBy k a b +ℤ packedBy k c d ≡ packedBy k (a +ℤ c) (b +ℤ d)
+  packed-sum a b c d = swap4 a (scaled k b) c (scaled k d) ∙ ap (λ (z : ℤ). a +ℤ c +ℤ z) (sym (scaled-sum k b d))
 
-packed-signed : (t : ℕ) (a b : ℤ) → signed t (packed a b) ≡ packed (signed t a) (signed t b)
-packed-signed zero a b = refl
-packed-signed (suc t) a b = negℤ-+ℤ a (scaled 2048 b) ∙ ap (λ (z : ℤ). negℤ a +ℤ z) (sym (scaled-neg 2048 b))
+  packed-signed : (t : ℕ) (a b : ℤ) → signed t (packedBy k a b) ≡ packedBy k (signed t a) (signed t b)
+  packed-signed zero a b = refl
+  packed-signed (suc t) a b = negℤ-+ℤ a (scaled k b) ∙ ap (λ (z : ℤ). negℤ a +ℤ z) (sym (scaled-neg k b))
 
-sum-packed : (n : ℕ) (x y : ℕ → ℤ) → sumBelowℤ n (λ p. packed (x p) (y p)) ≡ packed (sumBelowℤ n x) (sumBelowℤ n y)
-unfolding total
-sum-packed zero x y = refl
-sum-packed (suc n) x y =
-    ap (λ (z : ℤ). z +ℤ packed (x n) (y n)) (sum-packed n x y) ∙ packed-sum (sumBelowℤ n x) (sumBelowℤ n y) (x n) (y n)
+  sum-packed : (n : ℕ) (x y : ℕ → ℤ) → sumBelowℤ n (λ p. packedBy k (x p) (y p)) ≡ packedBy k (sumBelowℤ n x) (sumBelowℤ n y)
+  unfolding total
+  sum-packed zero x y = sym (ap (λ (z : ℤ). pos 0 +ℤ z) (zero-*ℤ (pos k)))
+  sum-packed (suc n) x y =
+      ap (λ (z : ℤ). z +ℤ packedBy k (x n) (y n)) (sum-packed n x y) ∙ packed-sum (sumBelowℤ n x) (sumBelowℤ n y) (x n) (y n)
 
-pub correlation-packed :
-    (m : ℕ) (x y : ℕ → ℤ) (u : ℕ) → correlation m (λ p. packed (x p) (y p)) u ≡ packed (correlation m x u) (correlation m y u)
-unfolding correlation
-correlation-packed m x y u =
-    sumℤ-ext (2 ^ m) _ _ (λ p l. packed-signed (ones (bitAnd u p) % 2) (x p) (y p))
-    ∙ sum-packed (2 ^ m) (λ p. signed (ones (bitAnd u p) % 2) (x p)) (λ p. signed (ones (bitAnd u p) % 2) (y p))
+  pub correlation-packed :
+      (m : ℕ) (x y : ℕ → ℤ) (u : ℕ)
+      → correlation m (λ p. packedBy k (x p) (y p)) u ≡ packedBy k (correlation m x u) (correlation m y u)
+  unfolding correlation
+  correlation-packed m x y u =
+      sumℤ-ext (2 ^ m) _ _ (λ p l. packed-signed (ones (bitAnd u p) % 2) (x p) (y p))
+      ∙ sum-packed (2 ^ m) (λ p. signed (ones (bitAnd u p) % 2) (x p)) (λ p. signed (ones (bitAnd u p) % 2) (y p))
+
+  pub packed-size : (x y : ℤ) → natAbs (packedBy k x y) ≤ natAbs x + natAbs y * k
+  packed-size x y = omega (arith, natAbs-add x (scaled k y), scaled-size k y)
 
 -- ---- the numbers of a pair
-
-pub packed-size : (x y : ℤ) → natAbs (packed x y) ≤ natAbs x + natAbs y * 2048
-packed-size x y = omega (arith, natAbs-add x (scaled 2048 y), scaled-size 2048 y)
 
 -- raised by k a number of size at most k is not negative
 pub lifted : (k : ℕ) (x : ℤ) → natAbs x ≤ k → x +ℤ pos k ≡ pos (natAbs (x +ℤ pos k))
@@ -92,11 +94,11 @@ lifted-back x h = ap (λ (z : ℤ). z -ℤ pos 1024) (sym (lifted 1024 x (omega 
 
 module _ (x y : ℤ) (hx : natAbs x ≤ 512) (hy : natAbs y ≤ 512) where
   pub packed-small : natAbs (packed x y) < 2097152
-  packed-small = omega (arith, packed-size x y)
+  packed-small = omega (arith, packed-size 2048 x y)
 
   -- the two digits
   raised-digits : raised (packed x y) ≡ natAbs (x +ℤ pos 1024) + natAbs (y +ℤ pos 1024) * 2048
-  raised-digits = ap natAbs (packed-sum x y (pos 1024) (pos 1024) ∙ ap₂ packed (lifted 1024 x (omega arith)) (lifted 1024 y (omega arith)))
+  raised-digits = ap natAbs (packed-sum 2048 x y (pos 1024) (pos 1024) ∙ ap₂ packed (lifted 1024 x (omega arith)) (lifted 1024 y (omega arith)))
 
   pub first-packed : firstOf (packed x y) ≡ x
   unfolding firstOf

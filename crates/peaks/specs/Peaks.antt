@@ -1,11 +1,11 @@
 -- Two numbers packed in one, the sizes of pairs, and the peak of some values. Assumes nothing.
-use Prim.Native.Nat.{ℕ, _+_, _-_, _*_, _/_, _%_, _^_, _≤_, _<_}
+use Prim.Native.Nat.{ℕ, _+_, _-_, _/_, _%_, _≤_, _<_}
 use mathlib.Core.Path.{_≡_}
 use mathlib.Core.Bool.{Bool, true, false, cond}
 use mathlib.Core.List.{List}
 use mathlib.Core.Logic.{_≢_}
 use lib.Dec.{eqb, ltb}
-use lib.IntN.{ℤ, pos, negsuc, natAbs, _+ℤ_, _-ℤ_, _*ℤ_}
+use lib.IntN.{ℤ, pos, natAbs, _+ℤ_, _-ℤ_, _*ℤ_}
 use lib.ListN.{length}
 use Rattle.words.specs.Sum.{greatestBelow, sumBelow}
 use Rattle.area.specs.Area.{at}
@@ -14,9 +14,12 @@ use Rattle.peaks.specs.declared.Peak.{Peak}
 
 -- ---- pairs
 
--- x and y in one number, where both are small
+-- x and y in one number, as digits to base b, where both are small
+abbrev pub packedBy : ℕ → ℤ → ℤ → ℤ
+packedBy b x y = x +ℤ y *ℤ pos b
+
 abbrev pub packed : ℤ → ℤ → ℤ
-packed x y = x +ℤ y *ℤ pos 2048
+packed = packedBy 2048
 
 -- raised so that both digits to base 2048 count from 1024 up
 abbrev pub raised : ℤ → ℕ

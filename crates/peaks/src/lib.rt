@@ -1,13 +1,12 @@
-// The greatest correlation of a word. The two halves of the word are packed two to a number and transformed together; the last level of
-// the transform is not made: of a pair x, y it would give x + y and x - y, the greater of which has size |x| + |y|.
+// The greatest of the sums and differences of some pairs: of x + y and x - y the greater has size |x| + |y|. The pairs are the correlations
+// of a word's halves, which are packed two to a number and transformed together: the last level of the transform is not made.
 ghost use mathlib.Core.Path.{_≡_};
 ghost use Prim.Native.Nat.{ℕ, _+_, _*_, _^_, _≤_, _<_};
 ghost use lib.ListN.{length};
 ghost use lib.IntN.{pos, natAbs};
 ghost use Rattle.words.specs.Sum.{greatestBelow};
 ghost use Rattle.words.specs.Written.{Written};
-ghost use Rattle.area.specs.Area.{at, Bits, SameFront, wordOf};
-ghost use Rattle.hadamard.specs.Correlation.{values, correlation};
+ghost use Rattle.area.specs.Area.{at, Bits};
 ghost use Rattle.peaks.specs.Peaks.{signsPacked, firstOf, secondOf, sizeOf, entrySizes, keysBelow, Packed, Sizes, joined, IsPeak, PeakAt};
 
 // The mask of the greatest absolute correlation, where it is the only one: its correlation's sign as a codeword's constant, and whether
@@ -20,7 +19,7 @@ pub struct Peak {
 }
 
 // The signs of the word's halves, packed, after the word.
-fn pack(h: usize, area: &mut [i32])
+pub fn pack(h: usize, area: &mut [i32])
     requires { ⌜ (h ≤ 512) × (4 * h ≡ length (now area)) × Bits (h + h) (now area) ⌝ }
     ensures { λ _. ⌜ Written (pos 0) (h + h) h (signsPacked h (now (area .entry))) (now (area .entry)) (now (area .exit)) ⌝ }
 {
@@ -49,7 +48,7 @@ fn second_of(z: i32) -> i32
 }
 
 // The absolute value.
-fn absolute(x: i32) -> i32
+pub fn absolute(x: i32) -> i32
     requires { ⌜ natAbs x < 2 ^ 31 ⌝ }
     ensures { λ r. ⌜ r ≡ pos (natAbs x) ⌝ }
 {
@@ -70,7 +69,7 @@ fn pair_sizes(h: usize, part: &mut [i32])
 }
 
 // The greatest of some sizes.
-fn greatest(sizes: &[i32]) -> i32
+pub fn greatest(sizes: &[i32]) -> i32
     requires { ⌜ Sizes (now sizes) ⌝ }
     ensures { λ g. ⌜ g ≡ pos (greatestBelow (length (now (sizes .entry))) (entrySizes (now (sizes .entry)))) ⌝ }
 {
@@ -87,7 +86,7 @@ fn greatest(sizes: &[i32]) -> i32
 }
 
 // The sum of 65536 + i over the places i that have size g: how often it occurs, and where.
-fn keys(sizes: &[i32], g: i32) -> u32
+pub fn keys(sizes: &[i32], g: i32) -> u32
     requires { ⌜ Sizes (now sizes) ⌝ }
     requires { ⌜ g ≡ pos (natAbs g) ⌝ }
     ensures { λ k. ⌜ k ≡ keysBelow (length (now (sizes .entry))) (entrySizes (now (sizes .entry))) (natAbs g) ⌝ }
@@ -107,7 +106,7 @@ fn keys(sizes: &[i32], g: i32) -> u32
 
 // The peak of size g at pair j, which is x, y: the mask of the sum where their signs are alike, and of the difference where they are not;
 // where one of them is 0 both have it.
-fn peak_at(h: usize, j: usize, g: i32, x: i32, y: i32) -> Peak
+pub fn peak_at(h: usize, j: usize, g: i32, x: i32, y: i32) -> Peak
     requires { ⌜ (h ≤ 512) × (j < h) × (g ≡ pos (natAbs g)) × (natAbs g < 2 ^ 31) ⌝ }
     ensures { λ p. ⌜ PeakAt h j g x y p ⌝ }
 {
@@ -125,7 +124,7 @@ fn peak_at(h: usize, j: usize, g: i32, x: i32, y: i32) -> Peak
 }
 
 // The peak of the sums and differences of the h pairs packed in the front of the part.
-fn search(h: usize, part: &mut [i32]) -> Peak
+pub fn search(h: usize, part: &mut [i32]) -> Peak
     requires { ⌜ Packed h (now part) ⌝ }
     ensures { λ p. ⌜ IsPeak (h + h) (joined h (λ j. firstOf (at (now (part .entry)) j)) (λ j. secondOf (at (now (part .entry)) j))) p ⌝ }
 {
@@ -144,19 +143,4 @@ fn search(h: usize, part: &mut [i32]) -> Peak
     let j = (key % 65536) as usize;
     let z = part[j];
     peak_at(h, j, g, first_of(z), second_of(z))
-}
-
-// The peak of the word in the front half of the area, which it leaves as it was.
-pub fn find_peak(m: usize, area: &mut [i32]) -> Peak
-    requires { ⌜ (1 ≤ m) × (m ≤ 10) × (length (now area) ≡ 2 * 2 ^ m) × Bits (2 ^ m) (now area) ⌝ }
-    ensures found { λ p. ⌜ IsPeak (2 ^ m) (correlation m (values (wordOf (2 ^ m) (now (area .entry))))) p ⌝ }
-    ensures kept { λ p. ⌜ SameFront (2 ^ m) (now (area .entry)) (now (area .exit)) ⌝ }
-{
-    let n = words::size(m);
-    let h = n / 2;
-    pack(h, area);
-    let e = n + h;
-    hadamard::transform::correlate(&mut area[n..e], m - 1);
-    let end = n + n;
-    search(h, &mut area[n..end])
 }

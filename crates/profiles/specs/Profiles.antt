@@ -4,7 +4,7 @@ use mathlib.Core.List.{List, [], _∷_}
 use lib.ListN.{getD}
 use Rattle.profiles.specs.declared.Profile.{Profile}
 
-abbrev row : ℕ → ℕ → ℕ → ℕ → Profile
+abbrev pub row : ℕ → ℕ → ℕ → ℕ → Profile
 row m r rounds leaves = record { m = m; r = r; rounds = rounds; leaves = leaves }
 
 -- m, r, rounds and leaf limit of the profiles 0 to 4

@@ -1,20 +1,19 @@
 //! Races of decoding by profile.
 
 use crate::race::{race, Given, Runner};
-use check::decoder::{Answer, Decoder};
-use check::decoders::Library;
 use check::random::Random;
 use opponent::{plain, profile, Profile, Workspace};
 
-/// A function that decodes a block into a buffer.
-struct Decoding<F> {
+/// A function that decodes a block into a buffer; its answer is read after the clock.
+struct Decoding<F, A> {
     name: &'static str,
     decode: F,
     out: Vec<u8>,
-    answer: Answer,
+    answer: A,
+    read: fn(A) -> (u64, u64, u64),
 }
 
-impl<F: FnMut(&[u8], &mut [u8]) -> Answer> Runner for Decoding<F> {
+impl<A: Copy, F: FnMut(&[u8], &mut [u8]) -> A> Runner for Decoding<F, A> {
     fn name(&self) -> &'static str {
         self.name
     }
@@ -25,21 +24,23 @@ impl<F: FnMut(&[u8], &mut [u8]) -> Answer> Runner for Decoding<F> {
 
     /// A refusal leaves the output of an earlier block.
     fn given(&self) -> Given {
-        let Answer { refusal, rounds, leaves, .. } = self.answer;
+        let (refusal, rounds, leaves) = (self.read)(self.answer);
         (refusal, rounds, leaves, if refusal == 0 { self.out.clone() } else { Vec::new() })
     }
 }
 
-fn runner<'a>(
-    name: &'static str,
-    m: usize,
-    decode: impl FnMut(&[u8], &mut [u8]) -> Answer + 'a,
-) -> Box<dyn Runner + 'a> {
-    Box::new(Decoding { name, decode, out: vec![0; 1 << m], answer: Answer::default() })
+fn library<'a>(m: usize, decode: impl FnMut(&[u8], &mut [u8]) -> calls::Answer + 'a) -> Box<dyn Runner + 'a> {
+    let read = |a: calls::Answer| (a.refusal as u64, a.rounds as u64, a.leaves as u64);
+    Box::new(Decoding { name: "library", decode, out: vec![0; 1 << m], answer: calls::Answer::default(), read })
 }
 
-fn answer(from: opponent::Answer) -> Answer {
-    Answer::numbers(from.refusal as u64, from.rounds as u64, from.leaves as u64)
+fn opponent<'a>(
+    name: &'static str,
+    m: usize,
+    decode: impl FnMut(&[u8], &mut [u8]) -> opponent::Answer + 'a,
+) -> Box<dyn Runner + 'a> {
+    let read = |a: opponent::Answer| (a.refusal as u64, a.rounds as u64, a.leaves as u64);
+    Box::new(Decoding { name, decode, out: vec![0; 1 << m], answer: opponent::Answer::default(), read })
 }
 
 #[derive(Clone, Copy)]
@@ -69,9 +70,9 @@ fn profile_race(number: usize, p: Profile, kind: &str, noise: Noise) -> Result<(
     let mut area = vec![0; 8 << p.m];
     let (mut plain_work, mut packed_work) = (plain::Workspace::default(), Workspace::default());
     let runners = vec![
-        runner("library", p.m, |word, out| Library.decode_profile(number, word, out, &mut area)),
-        runner("plain", p.m, |word, out| answer(plain::decode_profile(number, word, out, &mut plain_work))),
-        runner("packed", p.m, |word, out| answer(opponent::decode_profile(number, word, out, &mut packed_work))),
+        library(p.m, |word, out| calls::decode_profile(number, word, out, &mut area)),
+        opponent("plain", p.m, |word, out| plain::decode_profile(number, word, out, &mut plain_work)),
+        opponent("packed", p.m, |word, out| opponent::decode_profile(number, word, out, &mut packed_work)),
     ];
     race(&format!("profile {number} (m {}, r {}), {kind}", p.m, p.r), runners, &blocks)
 }

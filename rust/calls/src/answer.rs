@@ -11,6 +11,7 @@ pub struct Answer {
 }
 
 impl Answer {
+    #[inline]
     pub fn unpacked(bits: u64) -> Answer {
         let field = |first: u32, width: u32| bits >> first & ((1 << width) - 1);
         Answer {

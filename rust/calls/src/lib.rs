@@ -32,22 +32,26 @@ extern "C" {
     ) -> u64;
 }
 
+#[inline]
 pub fn encode(m: usize, r: usize, message: &[u8], out: &mut [u8]) -> Answer {
     // SAFETY: each pointer is valid for its length, and the mutable one is not shared.
     Answer::unpacked(unsafe { rm_encode(m, r, message.as_ptr(), message.len(), out.as_mut_ptr(), out.len()) })
 }
 
+#[inline]
 pub fn read_message(m: usize, r: usize, word: &[u8], out: &mut [u8]) -> Answer {
     // SAFETY: as for `encode`.
     Answer::unpacked(unsafe { rm_read_message(m, r, word.as_ptr(), word.len(), out.as_mut_ptr(), out.len()) })
 }
 
 /// Yes is 1 in the rounds.
+#[inline]
 pub fn is_codeword(m: usize, r: usize, word: &[u8]) -> Answer {
     // SAFETY: as for `encode`.
     Answer::unpacked(unsafe { rm_is_codeword(m, r, word.as_ptr(), word.len()) })
 }
 
+#[inline]
 pub fn decode(
     m: usize,
     r: usize,
@@ -64,6 +68,7 @@ pub fn decode(
     Answer::unpacked(unsafe { rm_decode(m, r, rounds, leaves, word, word_len, out, out_len, area, area_len) })
 }
 
+#[inline]
 pub fn decode_profile(profile: usize, word: &[u8], out: &mut [u8], area: &mut [i32]) -> Answer {
     let (word, word_len) = (word.as_ptr(), word.len());
     let (out, out_len) = (out.as_mut_ptr(), out.len());

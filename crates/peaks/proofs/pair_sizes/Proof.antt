@@ -8,7 +8,8 @@ use Rattle.words.specs.Written.{Written, written-none, written-more, written-to
 use Rattle.area.specs.Area.{at}
 use Rattle.area.specs.Numbers.{stored, sum-fits, sum-stored}
 use Rattle.peaks.specs.Peaks.{firstOf, secondOf, sizeOf}
-use Rattle.peaks.proofs.Casts.{IsSize, pair-read, number-read, number-small, size-read}
+use Rattle.peaks.specs.Stored.{number-read}
+use Rattle.peaks.proofs.Casts.{IsSize, pair-read, number-small, size-read}
 use Rattle.peaks.proofs.pair_sizes.Statement.{statement}
 use Rattle.peaks.proofs.pair_sizes.Tie as tie
 
@@ -47,7 +48,7 @@ first-of-requires : tie.Need-first-of-requires Inv-loop μ-loop
 first-of-requires c κs = rw (pair (c .before)) (pair-small (c .before))
 
 first : (c : tie.After-first-of Inv-loop μ-loop) → stored (c .first-of .result) ≡ firstOf (pairAt (c .before .before))
-first c = let a = c .before .before in number-read (c .first-of .ensures ∙ ap firstOf (pair a)) (first-small a)
+first c = let a = c .before .before in number-read (c .first-of .ensures ∙ ap firstOf (pair a)) (omega (arith, first-small a))
 
 absolute-requires : tie.Need-absolute-requires Inv-loop μ-loop
 absolute-requires c κs = number-small (first c) (first-small (c .before .before))
@@ -60,7 +61,7 @@ second-of-requires c κs = let a = c .before .before .before in rw (pair a) (pai
 
 second :
     (c : tie.After-second-of Inv-loop μ-loop) → stored (c .second-of .result) ≡ secondOf (pairAt (c .before .before .before .before))
-second c = let a = c .before .before .before .before in number-read (c .second-of .ensures ∙ ap secondOf (pair a)) (second-small a)
+second c = let a = c .before .before .before .before in number-read (c .second-of .ensures ∙ ap secondOf (pair a)) (omega (arith, second-small a))
 
 absolute-requires-2 : tie.Need-absolute-requires-2 Inv-loop μ-loop
 absolute-requires-2 c κs = number-small (second c) (second-small (c .before .before .before .before))

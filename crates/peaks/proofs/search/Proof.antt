@@ -1,17 +1,15 @@
 -- The sizes of the pairs, their greatest and its key lead to the peak.
-use Prim.Native.Nat.{ℕ, _+_, _-_, _%_, _^_, _<_}
+use Prim.Native.Nat.{_+_, _-_, _%_, _<_}
 use mathlib.Core.Path.{_≡_, refl, sym, ap, _∙_, subst}
 use native.Mathlib.Omega.{arith}
-use lib.IntN.{ℤ, pos, natAbs}
-use lib.Signed.{mag}
+use lib.IntN.{ℤ, natAbs}
 use lib.ListN.{take, drop}
-use mir.Facts.{toZ-ofZ}
 use borrow.Author.Needs.{needs}
 use Rattle.area.specs.Area.{at}
 use Rattle.area.specs.Numbers.{stored, stored-eq}
-use Rattle.peaks.specs.Peaks.{firstOf, secondOf, sizeOf, PeakAt}
-use Rattle.peaks.specs.declared.Peak.{Peak}
-use Rattle.peaks.specs.Found.{Held, held-sizes, held-searched, sizes-held, Searched, searched-many, searched-peak, searched-place}
+use Rattle.peaks.specs.Peaks.{firstOf, secondOf, Sizes}
+use Rattle.peaks.specs.Found.{Held, held-sizes, held-searched, sizes-held, sizes-small, Searched, searched-many, searched-peak, searched-place}
+use Rattle.peaks.specs.Stored.{as-it-is, size-whole, size-small, peak-as}
 use Rattle.peaks.proofs.search.Statement.{statement}
 use Rattle.peaks.proofs.search.Tie as tie
 use Rattle.peaks.proofs.search.Reads as reads
@@ -23,31 +21,16 @@ use Rattle.peaks.proofs.pair_sizes.Reads as pair-sizes-reads
 use Rattle.peaks.proofs.peak_at.Reads as peak-at-reads
 use Rattle.peaks.proofs.second_of.Reads as second-of-reads
 
--- ---- numbers as the code reads them
-
-as-it-is : {z : ℤ} → mag z < 2 ^ 31 → stored z ≡ z
-as-it-is l = toZ-ofZ (record { sfits = l })
-
-module _ {g : ℤ} {n : ℕ} (e : g ≡ pos n) (l : mag g < 2 ^ 31) where
-  size-read : stored g ≡ pos n
-  size-read = as-it-is l ∙ e
-
-  size-whole : stored g ≡ pos (natAbs (stored g))
-  size-whole = size-read ∙ ap (λ (z : ℤ). pos (natAbs z)) (sym size-read)
-
-  size-small : natAbs (stored g) < 2 ^ 31
-  size-small = omega (arith, ap natAbs size-read, ap mag e)
-
-peak-as :
-    {h j : ℕ} {g g′ x x′ y y′ : ℤ} {p : Peak} → g ≡ g′ → x ≡ x′ → y ≡ y′ → PeakAt h j g x y p → PeakAt h j g′ x′ y′ p
-peak-as eg ex ey k = rw (← eg, ← ex, ← ey) k
-
 -- ---- what the steps leave
 
 -- the sizes of the pairs
 sizes-at : (c : tie.After-pair-sizes) → let a = c .before .before .args in
-    Held (a .h) (λ i. sizeOf (at (a .part .now) i)) (take ((a .h + a .h) - a .h) (drop (a .h) (c .pair-sizes .last .1 .0)))
+    Held (a .h) (λ i. firstOf (at (a .part .now) i)) (λ i. secondOf (at (a .part .now) i)) (take ((a .h + a .h) - a .h) (drop (a .h) (c .pair-sizes .last .1 .0)))
 sizes-at c = sizes-held (c .before .before .pre) (c .pair-sizes .ensures)
+
+sizes-are : (c : tie.After-pair-sizes) → let a = c .before .before .args in
+    Sizes (take ((a .h + a .h) - a .h) (drop (a .h) (c .pair-sizes .last .1 .0)))
+sizes-are c = let k = c .before .before .pre in held-sizes (k .few) (sizes-at c) (sizes-small k)
 
 -- the greatest and its key
 told : (c : tie.After-keys) → let g = c .before .before .before in let a = g .before .before .before .before .before .before .args in
@@ -55,7 +38,8 @@ told : (c : tie.After-keys) → let g = c .before .before .before in let a = g .
 told c =
     let g = c .before .before .before in
     let p = g .before .before .before .before in
-    held-searched (p .before .before .pre) (sizes-at p) (g .greatest .ensures) (rw (as-it-is (g .greatest .ok)) at (c .keys .ensures))
+    let k = p .before .before .pre in
+    held-searched (k .few) (sizes-at p) (k .some) (g .greatest .ensures) (rw (as-it-is (g .greatest .ok)) at (c .keys .ensures))
 
 below : (c : tie.Else1) → let s = c .before .before .before .before .before .before .before .before .before .before in
     c .before .keys .result % 65536 < s .args .h
@@ -114,8 +98,7 @@ part-greatest-end c = search needs
 
 greatest-requires : tie.Need-greatest-requires
 greatest-requires c κs =
-    let p = c .before .before .before in
-    held-sizes (p .before .before .pre) (sizes-at p)
+    sizes-are (c .before .before .before)
 
 mul-keys : tie.Need-mul-keys
 mul-keys c = search needs
@@ -133,7 +116,7 @@ keys-requires : tie.Need-keys-requires
 keys-requires c κs =
     let g = c .before .before in
     let p = g .before .before .before .before in
-    (held-sizes (p .before .before .pre) (sizes-at p), size-whole (g .greatest .ensures) (g .greatest .ok))
+    (sizes-are p, size-whole (g .greatest .ensures) (g .greatest .ok))
 
 same-length : tie.Need-same-length
 same-length c = search needs

@@ -1,0 +1,2 @@
+-- Definitions: Nearest.
+pub mod Nearest

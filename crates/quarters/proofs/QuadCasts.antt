@@ -1,0 +1,232 @@
+-- Quads, their bits and their numbers in 32 signed bits, as the code computes with them. Assumes nothing.
+use Prim.Native.Nat.{ℕ, _+_, _-_, _*_, _/_, _%_, _^_, _≤_, _<_}
+use mathlib.Core.Path.{_≡_, refl, ap, ap₂, _∙_}
+use mathlib.Core.List.{List}
+use native.Mathlib.Nat.{add-zero}
+use native.Mathlib.Omega.{arith}
+use lib.Dec.{T}
+use lib.IntN.{ℤ, pos, negℤ, natAbs, _+ℤ_, _-ℤ_, _*ℤ_}
+use lib.ListN.{set}
+use lib.Signed.{nonNeg}
+use mir.Syntax.{w32}
+use mir.Val.{Fits, SFits, toZ}
+use mir.Facts.{toZ-ofZ, toZ-pos}
+use Rattle.words.specs.Written.{Written, written-none, written-more}
+use Rattle.area.specs.Area.{at, IsBit, zero-bit, one-bit}
+use Rattle.area.specs.AreaLaws.{bit-lt}
+use Rattle.area.specs.Numbers.{Half, stored, stored-eq, fits-32, natAbs-add, natAbs-neg, sum-fits, sum-stored}
+use Rattle.hadamard.specs.Correlation.{sign}
+use Rattle.hadamard.specs.CorrelationLaws.{sign-size}
+use Rattle.peaks.specs.Peaks.{pairSize}
+use Rattle.peaks.specs.Packing.{lifted}
+use Rattle.quarters.specs.Quads.{quad, raised, numberOf, Raisable, quadSigns, QuarterBits}
+use Rattle.quarters.specs.QuadLaws.{quad-size}
+use Rattle.quarters.specs.QuadSizes.{digit-small, number-small}
+
+-- ---- the signs of four bits: 16843009 - 2 * (x + 65536 * y), where x and y are pairs of bits
+
+-- a + 256 * b, as the code makes it
+abbrev pair : ℤ → ℤ → ℤ
+pair a b = stored a +ℤ stored (pos 256 *ℤ stored b)
+
+pub scaled-fits : {b : ℤ} → IsBit b → SFits w32 (pos 256 *ℤ stored b)
+scaled-fits zero-bit = record { sfits = omega arith }
+scaled-fits one-bit = record { sfits = omega arith }
+
+pub pair-fits : {a b : ℤ} → IsBit a → IsBit b → SFits w32 (pair a b)
+pair-fits zero-bit zero-bit = record { sfits = omega arith }
+pair-fits zero-bit one-bit = record { sfits = omega arith }
+pair-fits one-bit zero-bit = record { sfits = omega arith }
+pair-fits one-bit one-bit = record { sfits = omega arith }
+
+pair-is : {a b : ℤ} → IsBit a → IsBit b → stored (pair a b) ≡ pos (natAbs a + 256 * natAbs b)
+pair-is zero-bit zero-bit = refl
+pair-is zero-bit one-bit = refl
+pair-is one-bit zero-bit = refl
+pair-is one-bit one-bit = refl
+
+-- x + 65536 * y
+abbrev coded : ℤ → ℤ → ℤ → ℤ → ℤ
+coded a b c d = stored (pair a b) +ℤ stored (pos 65536 *ℤ stored (pair c d))
+
+module _ {a b c d : ℤ} (ha : IsBit a) (hb : IsBit b) (hc : IsBit c) (hd : IsBit d) where
+  abbrev code : ℕ
+  code = natAbs a + 256 * natAbs b + 65536 * (natAbs c + 256 * natAbs d)
+
+  code-le : code ≤ 16843009
+  code-le = omega (arith, bit-lt ha, bit-lt hb, bit-lt hc, bit-lt hd)
+
+  pub second-fits : SFits w32 (pos 65536 *ℤ stored (pair c d))
+  second-fits = rw (pair-is hc hd) (fits-32 _ (omega (arith, code-le)))
+
+  coded-is : coded a b c d ≡ pos code
+  coded-is = rw (toZ-ofZ second-fits, pair-is ha hb, pair-is hc hd)
+
+  pub coded-fits : SFits w32 (coded a b c d)
+  coded-fits = rw coded-is (fits-32 _ (omega (arith, code-le)))
+
+  double-is : pos 2 *ℤ stored (coded a b c d) ≡ pos (2 * code)
+  double-is = rw (toZ-ofZ coded-fits, coded-is)
+
+  pub double-fits : SFits w32 (pos 2 *ℤ stored (coded a b c d))
+  double-fits = rw double-is (fits-32 _ (omega (arith, code-le)))
+
+  pub signs-fit : SFits w32 (pos 16843009 -ℤ stored (pos 2 *ℤ stored (coded a b c d)))
+  signs-fit =
+      rw (toZ-ofZ double-fits, double-is)
+      (fits-32 _ (omega (arith, code-le, natAbs-add (pos 16843009) (negℤ (pos (2 * code))), natAbs-neg (pos (2 * code)))))
+
+pub signs-are :
+    {a b c d : ℤ} → IsBit a → IsBit b → IsBit c → IsBit d
+    → stored (pos 16843009 -ℤ stored (pos 2 *ℤ stored (coded a b c d)))
+    ≡ quad (sign (natAbs a)) (sign (natAbs b)) (sign (natAbs c)) (sign (natAbs d))
+signs-are zero-bit zero-bit zero-bit zero-bit = refl
+signs-are zero-bit zero-bit zero-bit one-bit = refl
+signs-are zero-bit zero-bit one-bit zero-bit = refl
+signs-are zero-bit zero-bit one-bit one-bit = refl
+signs-are zero-bit one-bit zero-bit zero-bit = refl
+signs-are zero-bit one-bit zero-bit one-bit = refl
+signs-are zero-bit one-bit one-bit zero-bit = refl
+signs-are zero-bit one-bit one-bit one-bit = refl
+signs-are one-bit zero-bit zero-bit zero-bit = refl
+signs-are one-bit zero-bit zero-bit one-bit = refl
+signs-are one-bit zero-bit one-bit zero-bit = refl
+signs-are one-bit zero-bit one-bit one-bit = refl
+signs-are one-bit one-bit zero-bit zero-bit = refl
+signs-are one-bit one-bit zero-bit one-bit = refl
+signs-are one-bit one-bit one-bit zero-bit = refl
+signs-are one-bit one-bit one-bit one-bit = refl
+
+-- ---- quads of signs in the area
+
+signs-small : (a b c d : ℕ) → natAbs (quad (sign a) (sign b) (sign c) (sign d)) < 2 ^ 31
+signs-small a b c d = omega (arith, quad-size (sign a) (sign b) (sign c) (sign d), sign-size a, sign-size b, sign-size c, sign-size d)
+
+module _ (i : ℕ) {q : ℕ} {xs : List ℤ} (pre : (i + 4 ≤ q) × QuarterBits q xs) where
+  signs-held : {z : ℤ} (j : ℕ) → z ≡ quadSigns q xs j → stored z ≡ quadSigns q xs j
+  signs-held {z} j e =
+      let b : ℕ → ℕ = λ p. natAbs (at xs p) in
+      stored-eq z (rw e (signs-small (b j) (b (q + j)) (b (2 * q + j)) (b (3 * q + j)))) ∙ e
+
+  abbrev Quad : ℕ → ℤ → Type 0
+  Quad j z = z ≡ quadSigns q xs j
+
+  -- four of them written after the word
+  pub four-packed :
+      {w x y z : ℤ} → Quad i w → Quad (i + 1) x → Quad (i + 2) y → Quad (i + 3) z
+      → Written (pos 0) (4 * q + i) 4 (λ k. quadSigns q xs (i + k)) xs
+      (set (set (set (set xs (4 * q + i) (stored w)) (4 * q + i + 1) (stored x)) (4 * q + i + 2) (stored y)) (4 * q + i + 3) (stored z))
+  four-packed ew ex ey ez =
+      written-more
+      (written-more
+      (written-more
+      (written-more (written-none (pos 0) (4 * q + i) (λ k. quadSigns q xs (i + k)) xs)
+      _ _ (omega arith) (omega arith) (rw (add-zero i) (signs-held i ew)))
+      _ _ (omega arith) (omega arith) (signs-held (i + 1) ex))
+      _ _ (omega arith) (omega arith) (signs-held (i + 2) ey))
+      _ _ (omega arith) (omega arith) (signs-held (i + 3) ez)
+
+-- an area of which only the part after the word was written
+module _ {q n : ℕ} {f : ℕ → ℤ} {xs ys : List ℤ} (h : QuarterBits q xs) (w : Written (pos 0) (4 * q) n f xs ys) where
+  pub still-bits : QuarterBits q ys
+  still-bits = record {
+    few = h .few;
+    fours = h .fours;
+    room = omega arith;
+    bits = record { room = omega arith; bits = λ p l. rw (w .below p l) (h .bits .bits p l) };
+  }
+
+  pub still-signs : (p : ℕ) → p < q → quadSigns q ys p ≡ quadSigns q xs p
+  still-signs p l =
+      rw (w .below p (omega arith), w .below (q + p) (omega arith), w .below (2 * q + p) (omega arith), w .below (3 * q + p) (omega arith))
+
+-- ---- the numbers of a quad
+
+module _ {z : ℤ} (h : Raisable z) where
+  abbrev raisedStored : ℤ
+  raisedStored = stored (stored z +ℤ pos 1077952576)
+
+  quad-held : stored z ≡ z
+  quad-held = stored-eq z (omega (arith, h .small))
+
+  raised-small : raised z < 2 ^ 31
+  raised-small = omega (arith, h .small, natAbs-add z (pos 1077952576))
+
+  pub raised-fits : SFits w32 (stored z +ℤ pos 1077952576)
+  raised-fits = rw quad-held (fits-32 _ raised-small)
+
+  raised-is : raisedStored ≡ pos (raised z)
+  raised-is = toZ-ofZ raised-fits ∙ rw quad-held (lifted 1077952576 z (omega (arith, h .small)))
+
+  pub raised-casts : T (nonNeg raisedStored) × Fits w32 (natAbs raisedStored)
+  raised-casts = rw raised-is (tt, record { fits = omega (arith, raised-small) })
+
+module _ (w : ℕ) {z : ℤ} (h : Raisable z) where
+  abbrev digit : ℕ
+  digit = natAbs (raisedStored h) / w % 256
+
+  digit-held : toZ w32 digit ≡ pos digit
+  digit-held = toZ-pos w32 (omega arith)
+
+  lowered-small : natAbs (pos digit -ℤ pos 64) < 2 ^ 31
+  lowered-small = omega (arith, digit-small digit (omega arith))
+
+  pub lowered-fits : SFits w32 (toZ w32 digit -ℤ pos 64)
+  lowered-fits = rw digit-held (fits-32 _ lowered-small)
+
+  pub number-is : stored (toZ w32 digit -ℤ pos 64) ≡ numberOf w z
+  unfolding numberOf
+  number-is = toZ-ofZ lowered-fits ∙ rw (digit-held, raised-is h)
+
+-- ---- sums and differences of two numbers of a quad, and their sizes
+
+-- x, which the code makes, is y
+pub record Made (x y : ℤ) : Type 0 where
+  pub is : x ≡ y
+  pub half : Half y
+
+-- the number of weight w, as the code got it of the stored quad
+number-held : (w : ℕ) {z x : ℤ} → Raisable z → x ≡ numberOf w (stored z) → stored x ≡ numberOf w z
+number-held w {z} {x} h e =
+    let is : x ≡ numberOf w z = e ∙ ap (numberOf w) (quad-held h) in stored-eq x (rw is (omega (arith, number-small w z))) ∙ is
+
+module _ (v w : ℕ) {z x y : ℤ} (h : Raisable z) (ex : x ≡ numberOf v (stored z)) (ey : y ≡ numberOf w (stored z)) where
+  pub sum-made : Made (stored x +ℤ stored y) (numberOf v z +ℤ numberOf w z)
+  sum-made = record {
+    is = ap₂ _+ℤ_ (number-held v h ex) (number-held w h ey);
+    half = record { half = omega (arith, natAbs-add (numberOf v z) (numberOf w z), number-small v z, number-small w z) };
+  }
+
+  pub difference-made : Made (stored x -ℤ stored y) (numberOf v z -ℤ numberOf w z)
+  difference-made = record {
+    is = ap₂ _-ℤ_ (number-held v h ex) (number-held w h ey);
+    half = record {
+      half = omega (arith, natAbs-add (numberOf v z) (negℤ (numberOf w z)), natAbs-neg (numberOf w z), number-small v z, number-small w z);
+    };
+  }
+
+module _ {x y : ℤ} (m : Made x y) where
+  pub made-fits : SFits w32 x
+  made-fits = rw (m .is) (fits-32 y (omega (arith, m .half .half)))
+
+  pub made-stored : stored x ≡ y
+  made-stored = toZ-ofZ made-fits ∙ m .is
+
+  pub made-small : natAbs (stored x) < 2 ^ 31
+  made-small = rw made-stored (omega (arith, m .half .half))
+
+  -- its absolute value
+  module _ {r : ℤ} (e : r ≡ pos (natAbs (stored x))) where
+    size-is : r ≡ pos (natAbs y)
+    size-is = e ∙ ap (λ (z : ℤ). pos (natAbs z)) made-stored
+
+    size-half : Half r
+    size-half = record { half = rw size-is (m .half .half) }
+
+-- the absolute values of two
+module _ {x y r s a b : ℤ} (mx : Made x a) (my : Made y b) (er : r ≡ pos (natAbs (stored x))) (es : s ≡ pos (natAbs (stored y))) where
+  pub sizes-fit : SFits w32 (stored r +ℤ stored s)
+  sizes-fit = sum-fits (size-half mx er) (size-half my es)
+
+  pub sizes-are : stored (stored r +ℤ stored s) ≡ pos (pairSize a b)
+  sizes-are = sum-stored (size-half mx er) (size-half my es) ∙ ap₂ _+ℤ_ (size-is mx er) (size-is my es)

@@ -1,0 +1,45 @@
+-- Quads as the code reads them, and their sizes as it writes them. Assumes nothing.
+use Prim.Native.Nat.{ℕ, _+_, _≤_, _<_}
+use mathlib.Core.Path.{_≡_, refl, ap, _∙_}
+use mathlib.Core.List.{List}
+use native.Mathlib.Omega.{arith}
+use lib.IntN.{ℤ, pos}
+use lib.ListN.{length, set}
+use Rattle.words.specs.Written.{Written, written-none, written-more}
+use Rattle.area.specs.Area.{at}
+use Rattle.area.specs.Numbers.{stored, stored-eq}
+use Rattle.peaks.specs.Stored.{number-read}
+use Rattle.quarters.specs.Quads.{Quads, Raisable}
+
+module _ {q : ℕ} {xs : List ℤ} (k : Quads q xs) where
+  pub quad-read : (j : ℕ) → j < q → stored (at xs j) ≡ at xs j
+  quad-read j l = stored-eq (at xs j) (omega (arith, k .each j l .small))
+
+  pub quad-raisable : (j : ℕ) → j < q → Raisable (stored (at xs j))
+  quad-raisable j l = rw (quad-read j l) (k .each j l)
+
+  -- the sizes of the four quads from i on, written from place a on
+  module _ (i : ℕ) (room : i + 4 ≤ q) (g : ℤ → ℕ) (small : (z : ℤ) → g z ≤ 764) where
+    abbrev SizeAt : ℕ → ℤ → Type 0
+    SizeAt j r = r ≡ pos (g (stored (at xs j)))
+
+    size-stored : (p j : ℕ) → p < 4 → j ≡ i + p → {r : ℤ} → SizeAt j r → stored r ≡ pos (g (at xs (i + p)))
+    size-stored p j l e er =
+        number-read
+        (er ∙ rw e (ap (λ (z : ℤ). pos (g z)) (quad-read (i + p) (omega arith))))
+        (omega (arith, small (at xs (i + p))))
+
+    pub four-written :
+        {ys : List ℤ} {a : ℕ} (b : ℕ) → b ≡ a → a + 4 ≤ length ys
+        → {r s t u : ℤ} → SizeAt i r → SizeAt (i + 1) s → SizeAt (i + 2) t → SizeAt (i + 3) u
+        → Written (pos 0) a 4 (λ p. pos (g (at xs (i + p)))) ys
+        (set (set (set (set ys b (stored r)) (b + 1) (stored s)) (b + 2) (stored t)) (b + 3) (stored u))
+    four-written {ys} {a} b e fit er es et eu =
+        written-more
+        (written-more
+        (written-more
+        (written-more (written-none (pos 0) a (λ p. pos (g (at xs (i + p)))) ys)
+        b _ (omega arith) (omega arith) (size-stored 0 i (omega arith) (omega arith) er))
+        (b + 1) _ (omega arith) (omega arith) (size-stored 1 (i + 1) (omega arith) refl es))
+        (b + 2) _ (omega arith) (omega arith) (size-stored 2 (i + 2) (omega arith) refl et))
+        (b + 3) _ (omega arith) (omega arith) (size-stored 3 (i + 3) (omega arith) refl eu)

@@ -1,0 +1,167 @@
+-- The sizes of the sums and differences of quads: that they are small, how they come into a list after the quads, and where the pair of a
+-- size is found. Assumes nothing.
+use Prim.Native.Nat.{ℕ, suc, _+_, _-_, _/_, _%_, _≤_, _<_}
+use mathlib.Core.Path.{_≡_, refl, sym, ap, _∙_, subst}
+use mathlib.Core.Bool.{Bool, true, false, cond}
+use mathlib.Core.List.{List}
+use mathlib.Core.Logic.{_⊎_, inl, inr, ⊎-elim}
+use native.Mathlib.Decide.{decLt}
+use native.Mathlib.Nat.{mod-lt, mod-eq-of-lt, mod-eq-sub-mod}
+use native.Mathlib.Omega.{arith}
+use lib.Bits.{bitAnd}
+use lib.Dec.{eqb, ltb}
+use lib.IntN.{ℤ, pos, negsuc, negℤ, natAbs, _+ℤ_, _-ℤ_}
+use lib.ListN.{length, take, drop}
+use borrow.Author.Tests.{eq-eqb, ne-eqb, lt-ltb, le-ltb, ltb-true, ltb-false}
+use Rattle.words.specs.Parts.{part-at, part-length}
+use Rattle.words.specs.Written.{Written}
+use Rattle.area.specs.Area.{at}
+use Rattle.area.specs.Numbers.{natAbs-add, natAbs-neg}
+use Rattle.peaks.specs.Found.{Held}
+use Rattle.peaks.specs.Pairs.{sizes}
+use Rattle.peaks.specs.Peaks.{joined}
+use Rattle.quarters.specs.Quads.{raised, numberOf, firstSum, lastSum, firstDifference, lastDifference, sumSize, differenceSize}
+use Rattle.quarters.specs.Quads.{firsts, lasts, Quads, FourSized, Sized}
+
+-- ---- small sizes
+
+-- a digit d, less 64, is from -64 to 191
+pub digit-small : (d : ℕ) → d < 256 → natAbs (pos d -ℤ pos 64) ≤ 191
+digit-small d h = go (ltb d 64) refl
+  where
+    go : (t : Bool) → ltb d 64 ≡ t → natAbs (cond t (negsuc (64 - suc d)) (pos (d - 64))) ≤ 191
+    go true e = omega (arith, ltb-true d 64 e)
+    go false e = omega (arith, ltb-false d 64 e)
+
+pub number-small : (w : ℕ) (z : ℤ) → natAbs (numberOf w z) ≤ 191
+unfolding numberOf
+number-small w z = digit-small (raised z / w % 256) (omega arith)
+
+-- the sizes of a pair of sums and of a pair of differences
+module _ (v w : ℕ) (z : ℤ) where
+  sum-most : natAbs (numberOf v z +ℤ numberOf w z) ≤ 382
+  sum-most = omega (arith, natAbs-add (numberOf v z) (numberOf w z), number-small v z, number-small w z)
+
+  difference-most : natAbs (numberOf v z -ℤ numberOf w z) ≤ 382
+  difference-most =
+      let y = numberOf w z in
+      omega (arith, natAbs-add (numberOf v z) (negℤ y), natAbs-neg y, number-small v z, number-small w z)
+
+pub sum-small : (z : ℤ) → sumSize z ≤ 764
+sum-small z = omega (arith, sum-most 1 256 z, sum-most 65536 16777216 z)
+
+pub difference-small : (z : ℤ) → differenceSize z ≤ 764
+difference-small z = omega (arith, difference-most 1 256 z, difference-most 65536 16777216 z)
+
+-- ---- four quads at a time
+
+pub sized-none : (q : ℕ) (xs : List ℤ) → Sized q 0 xs xs
+sized-none q xs = record {
+  long = refl;
+  quads = λ j l. refl;
+  sums = λ j l. absurd (omega arith);
+  differences = λ j l. absurd (omega arith);
+}
+
+module _ {q n : ℕ} {xs ys : List ℤ} (s : Sized q n xs ys) where
+  pub sized-quads : Quads q xs → Quads q ys
+  sized-quads k = record {
+    some = k .some;
+    few = k .few;
+    fours = k .fours;
+    masked = k .masked;
+    size = k .size ∙ sym (s .long);
+    each = λ i l. rw (s .quads i l) (k .each i l);
+  }
+
+  -- what g gives of each quad, from place a on: four more
+  run-more :
+      (g : ℤ → ℕ) (a : ℕ) {us vs : List ℤ} → n + 4 ≤ q → ((j : ℕ) → j < n → at us (a + j) ≡ pos (g (at xs j)))
+      → Written (pos 0) (a + n) 4 (λ k. pos (g (at ys (n + k)))) us vs → (j : ℕ) → j < n + 4 → at vs (a + j) ≡ pos (g (at xs j))
+  run-more g a {vs = vs} room old w j l = elim (decLt j n) [
+    | yes k ↦ w .below (a + j) (omega arith) ∙ old j k
+    | no k ↦
+        let here : n + (j - n) ≡ j = omega arith in
+        let place : a + n + (j - n) ≡ a + j = omega arith in
+        subst (λ (p : ℕ). at vs p ≡ pos (g (at xs j))) place
+        (w .within (j - n) (omega arith) ∙ rw here (ap (λ (z : ℤ). pos (g z)) (s .quads j (omega arith))))
+  ]
+
+  pub sized-more : {zs : List ℤ} → n + 4 ≤ q → FourSized q n ys zs → Sized q (n + 4) xs zs
+  sized-more room f = record {
+    long = f .differences .long ∙ f .sums .long ∙ s .long;
+    quads = λ j l. f .differences .below j (omega arith) ∙ f .sums .below j (omega arith) ∙ s .quads j l;
+    sums = λ j l. f .differences .below (q + j) (omega arith) ∙ run-more sumSize q room (s .sums) (f .sums) j l;
+    differences =
+        run-more differenceSize (q + q) room (λ j l. f .sums .above (q + q + j) (omega arith) ∙ s .differences j l) (f .differences);
+  }
+
+-- ---- the sizes as a list of pairs
+
+module _ (q : ℕ) (xs : List ℤ) (i : ℕ) where
+  sum-sized : i < q → sizes (firsts q xs) (lasts q xs) i ≡ sumSize (at xs i)
+  sum-sized l = rw (lt-ltb i q l)
+
+  difference-sized : q ≤ i → sizes (firsts q xs) (lasts q xs) i ≡ differenceSize (at xs (i - q))
+  difference-sized l = rw (le-ltb i q l)
+
+  pub sizes-small : sizes (firsts q xs) (lasts q xs) i ≤ 1024
+  sizes-small = elim (decLt i q) [
+    | yes k ↦ omega (arith, sum-sized k, sum-small (at xs i))
+    | no k ↦ omega (arith, difference-sized (omega arith), difference-small (at xs (i - q)))
+  ]
+
+-- written after the quads, as the code takes `[q..q + (q + q)]`
+pub sizes-held :
+    {q : ℕ} {xs ys : List ℤ} → Quads q xs → Sized q q xs ys
+    → Held (q + q) (firsts q xs) (lasts q xs) (take ((q + (q + q)) - q) (drop q ys))
+sizes-held {q} {xs} {ys} k s =
+    let room : q + (q + q) ≤ length ys = omega (arith, s .long, k .size) in
+    let all : (q + (q + q)) - q ≡ q + q = omega arith in
+    rw all (record { long = part-length (pos 0) q (q + q) ys room; each = λ i l. part-at (pos 0) q (q + q) ys room i l ∙ each i l })
+  where
+    each : (i : ℕ) → i < q + q → at ys (q + i) ≡ pos (sizes (firsts q xs) (lasts q xs) i)
+    each i l = elim (decLt i q) [
+      | yes h ↦ s .sums i h ∙ ap pos (sym (sum-sized q xs i h))
+      | no h ↦
+          let place : q + q + (i - q) ≡ q + i = omega arith in
+          subst (λ (p : ℕ). at ys p ≡ pos (sizes (firsts q xs) (lasts q xs) i)) place
+          (s .differences (i - q) (omega arith) ∙ ap pos (sym (difference-sized q xs i (omega arith))))
+    ]
+
+-- ---- the pair at a place, by the mask
+
+-- where the quad of the pair j stands
+abbrev pub lowOf : ℕ → ℕ → ℕ
+lowOf q j = bitAnd j (q - 1)
+
+module _ {q : ℕ} {xs : List ℤ} (k : Quads q xs) (j : ℕ) where
+  pub low-below : lowOf q j < q
+  low-below = rw (k .masked j) (mod-lt j (k .some))
+
+  module _ (l : j < q + q) where
+    -- a quad's sums are at its own place, its differences q further
+    low-is : ((j < q) × (lowOf q j ≡ j)) ⊎ ((q ≤ j) × (lowOf q j ≡ j - q))
+    low-is = elim (decLt j q) [
+      | yes h ↦ inl (h, k .masked j ∙ mod-eq-of-lt h)
+      | no h ↦
+          let past : q ≤ j = omega arith in
+          inr (past, k .masked j ∙ mod-eq-sub-mod past ∙ mod-eq-of-lt (omega arith))
+    ]
+
+    joined-at :
+        (x y : ℕ → ℤ)
+        → joined q x y j ≡ cond (eqb j (lowOf q j)) (x (lowOf q j) +ℤ y (lowOf q j)) (x (lowOf q j) -ℤ y (lowOf q j))
+    joined-at x y =
+        ⊎-elim
+        (λ (a : (j < q) × (lowOf q j ≡ j)). rw (a .1, lt-ltb j q (a .0), eq-eqb j j refl))
+        (λ (b : (q ≤ j) × (lowOf q j ≡ j - q)). rw (b .1, le-ltb j q (b .0), ne-eqb j (j - q) (λ e. omega (arith, k .some))))
+        low-is
+
+    -- z is the quad that stands there
+    module _ {z : ℤ} (e : z ≡ at xs (lowOf q j)) where
+      pub first-at : cond (eqb j (lowOf q j)) (firstSum z) (firstDifference z) ≡ firsts q xs j
+      first-at = rw e (sym (joined-at (λ i. numberOf 1 (at xs i)) (λ i. numberOf 256 (at xs i))))
+
+      pub last-at : cond (eqb j (lowOf q j)) (lastSum z) (lastDifference z) ≡ lasts q xs j
+      last-at = rw e (sym (joined-at (λ i. numberOf 65536 (at xs i)) (λ i. numberOf 16777216 (at xs i))))
