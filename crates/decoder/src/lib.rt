@@ -11,8 +11,6 @@ use refusals::Answer;
 use refusals::Decoded;
 use refusals::Refusal;
 
-mod checks;
-
 // The decoded word, where there is one, to the output.
 fn deliver(answer: Decoded, area: &[i32], out: &mut [u8])
     requires { ⌜ Deliverable (length (now out)) answer (now area) ⌝ }

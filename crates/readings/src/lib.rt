@@ -10,33 +10,15 @@ use refusals::Refusal;
 use steps::Count;
 use steps::cast;
 use steps::flip;
+use steps::settle;
 ghost use mathlib.Core.Path.{_≡_};
-ghost use mathlib.Core.Bool.{true, cond};
 ghost use Prim.Native.Nat.{ℕ, suc, _+_, _*_, _^_, _≤_, _<_};
 ghost use lib.ListN.{length};
-ghost use Rattle.code.specs.Code.{codewordTest};
-ghost use Rattle.area.specs.Area.{Bits, SameFront, wordOf};
+ghost use Rattle.area.specs.Area.{wordOf};
 ghost use Rattle.rule.specs.Reading;
 ghost use Rattle.rule.specs.Decoding.{limited};
 ghost use Rattle.leaves.specs.Leaves.{Read, Kept};
 ghost use Rattle.readings.specs.Readings.{Ready, Voted};
-
-// The answer for a word that no round changes: after one round it is the word given.
-fn settle(m: usize, r: usize, k: usize, used: usize, area: &mut [i32]) -> Told
-    requires { ⌜ (m ≤ 10) × (2 * 2 ^ m ≤ length (now area)) × Bits (2 ^ m) (now area) ⌝ }
-    ensures tested { λ t. ⌜ t .answer ≡ cond (codewordTest m r (wordOf (2 ^ m) (now (area .entry)))) (Decoded.Accepted k used) (Decoded.Refused Refusal.Unsettled k used) ⌝ }
-    ensures same { λ t. ⌜ SameFront (2 ^ m) (now (area .entry)) (now (area .exit)) ⌝ }
-    ensures first { λ t. ⌜ (t .kept ≡ true → k ≡ 1) ⌝ }
-{
-    if settled::holds_codeword(m, r, area) {
-        Told {
-            answer: Decoded::Accepted(k, used),
-            kept: k == 1,
-        }
-    } else {
-        changed(Decoded::Refused(Refusal::Unsettled, k, used))
-    }
-}
 
 // The reading of the word in the front of the area, with at most `left` leaves.
 pub fn reading(m: usize, r: usize, rounds: usize, left: usize, area: &mut [i32]) -> Told

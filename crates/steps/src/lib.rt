@@ -1,7 +1,9 @@
-// What a direction's answer does to the votes, and the flips that end a round.
+// What a direction's answer does to the votes, the flips that end a round, and the answer for a word that no round changes.
 use leaves::Told;
+use leaves::changed;
 use refusals::Decoded;
 use refusals::Refusal;
+ghost use mathlib.Core.Bool.{true, cond};
 ghost use mathlib.Core.Path.{_≡_};
 ghost use Prim.Native.Nat.{ℕ, suc, _+_, _*_, _%_, _^_, _≤_, _<_};
 ghost use lib.ListN.{length};
@@ -10,7 +12,8 @@ ghost use lib.IntN.{pos, _+ℤ_};
 ghost use Rattle.words.specs.Sum.{allBelow};
 ghost use Rattle.words.specs.Word.{bit};
 ghost use Rattle.words.specs.Written.{Written};
-ghost use Rattle.area.specs.Area.{at, Bits, wordOf};
+ghost use Rattle.area.specs.Area.{at, Bits, SameFront, wordOf};
+ghost use Rattle.code.specs.Code.{codewordTest};
 ghost use Rattle.cosets.specs.Votes.{Projects, Tally};
 ghost use Rattle.rule.specs.Calls.{valuesOf};
 ghost use Rattle.steps.specs.Steps.{countIn, voteOf, flipOf, Voter, Unmoved};
@@ -74,4 +77,21 @@ pub fn flip(n: usize, area: &mut [i32]) -> bool
         settled = settled & (f == 0);
     }
     settled
+}
+
+// The answer for a word that no round changes: after one round it is the word given.
+pub fn settle(m: usize, r: usize, k: usize, used: usize, area: &mut [i32]) -> Told
+    requires { ⌜ (m ≤ 10) × (2 * 2 ^ m ≤ length (now area)) × Bits (2 ^ m) (now area) ⌝ }
+    ensures tested { λ t. ⌜ t .answer ≡ cond (codewordTest m r (wordOf (2 ^ m) (now (area .entry)))) (Decoded.Accepted k used) (Decoded.Refused Refusal.Unsettled k used) ⌝ }
+    ensures same { λ t. ⌜ SameFront (2 ^ m) (now (area .entry)) (now (area .exit)) ⌝ }
+    ensures first { λ t. ⌜ (t .kept ≡ true → k ≡ 1) ⌝ }
+{
+    if settled::holds_codeword(m, r, area) {
+        Told {
+            answer: Decoded::Accepted(k, used),
+            kept: k == 1,
+        }
+    } else {
+        changed(Decoded::Refused(Refusal::Unsettled, k, used))
+    }
 }

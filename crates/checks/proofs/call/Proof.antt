@@ -1,9 +1,9 @@
--- `decoder::checks::call` meets its contract. Assumes nothing.
+-- `checks::call` meets its contract. Assumes nothing.
 use borrow.Author.Needs.{needs}
 use Rattle.refusals.specs.CheckLaws.{stops, goes-on, code-done}
 use Rattle.rule.specs.Decoding.{bufferChecks}
-use Rattle.decoder.proofs.checks.call.Statement.{statement}
-use Rattle.decoder.proofs.checks.call.Tie as tie
+use Rattle.checks.proofs.call.Statement.{statement}
+use Rattle.checks.proofs.call.Tie as tie
 
 check-code-requires : tie.Need-check-code-requires
 check-code-requires c κs = search needs

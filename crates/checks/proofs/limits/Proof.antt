@@ -1,10 +1,10 @@
--- `decoder::checks::limits` meets its contract. Assumes nothing.
+-- `checks::limits` meets its contract. Assumes nothing.
 use native.Mathlib.Omega.{arith}
 use borrow.Author.Tests.{le-leb, lt-leb}
 use Rattle.refusals.specs.declared.Refusal.the-variants.{RoundLimit, LeafLimit}
 use Rattle.refusals.specs.CheckLaws.{no-more, fails, passes, refuses, all-pass}
-use Rattle.decoder.proofs.checks.limits.Statement.{statement}
-use Rattle.decoder.proofs.checks.limits.Tie as tie
+use Rattle.checks.proofs.limits.Statement.{statement}
+use Rattle.checks.proofs.limits.Tie as tie
 
 returns : tie.Need-returns
 returns c = refuses RoundLimit (λ e. omega arith) (fails _ _ _ (lt-leb 1 (c .before .args .rounds) (omega arith)))

@@ -1,4 +1,4 @@
--- `decoder::checks::buffers` meets its contract. Assumes nothing.
+-- `checks::buffers` meets its contract. Assumes nothing.
 use Prim.Native.Nat.{_*_, _^_, _≤_}
 use mathlib.Core.Path.{_≡_, sym, _∙_}
 use native.Mathlib.Omega.{arith}
@@ -8,8 +8,8 @@ use borrow.Author.Needs.{needs}
 use borrow.Author.Tests.{eq-eqb, ne-eqb, le-leb, lt-leb}
 use Rattle.refusals.specs.declared.Refusal.the-variants.{InputLength, OutputLength, AreaLength}
 use Rattle.refusals.specs.CheckLaws.{fails, passes, refuses}
-use Rattle.decoder.proofs.checks.buffers.Statement.{statement}
-use Rattle.decoder.proofs.checks.buffers.Tie as tie
+use Rattle.checks.proofs.buffers.Statement.{statement}
+use Rattle.checks.proofs.buffers.Tie as tie
 
 size-requires : tie.Need-size-requires
 size-requires c κs = search needs
