@@ -13,8 +13,9 @@ use Rattle.area.specs.Area.{at, Bits, wordOf}
 use Rattle.hadamard.specs.Correlation.{values, correlation}
 use Rattle.peaks.specs.Peaks.{packedBy, joined}
 use Rattle.peaks.specs.Packing.{correlation-size}
-use Rattle.quarters.specs.Quads.{quad, quadSigns, numberOf, Raisable, Quads, firsts, lasts}
-use Rattle.quarters.specs.QuadLaws.{correlation-quad, quad-size, quad-raisable, first-number, second-number, third-number, fourth-number}
+use Rattle.quads.specs.Quads.{quad, quadSigns, numberOf, Raisable}
+use Rattle.quads.specs.QuadLaws.{correlation-quad, quad-size, quad-raisable, first-number, second-number, third-number, fourth-number}
+use Rattle.quarters.specs.Quarters.{Quads, firsts, lasts}
 use Rattle.nearest.proofs.Values.{value-at, value-size, joined-whole}
 use Rattle.nearest.proofs.Lent.{Layout, Correlated, Packing}
 

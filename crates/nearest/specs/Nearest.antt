@@ -9,7 +9,8 @@ use lib.ListN.{length}
 use Rattle.words.specs.Written.{Written}
 use Rattle.area.specs.Area.{at, Bits}
 use Rattle.peaks.specs.Peaks.{signsPacked, firstOf, secondOf, joined, Packed}
-use Rattle.quarters.specs.Quads.{quadSigns, QuarterBits, Quads, firsts, lasts}
+use Rattle.quads.specs.Quads.{quadSigns, QuarterBits}
+use Rattle.quarters.specs.Quarters.{Quads, firsts, lasts}
 
 -- whether a word of exponent m is packed by quarters: from 16 places on the code takes four numbers at a time, and up to 128 places a
 -- quarter's correlation fits 8 bits

@@ -31,7 +31,7 @@ fn pack(quarters: bool, q: usize, area: &mut [i32])
     ensures { λ _. ⌜ PackedAfter quarters q (now (area .entry)) (now (area .exit)) ⌝ }
 {
     if quarters {
-        quarters::pack(q, area);
+        quads::pack(q, area);
     } else {
         peaks::pack(q, area);
     }

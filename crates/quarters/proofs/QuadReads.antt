@@ -9,7 +9,8 @@ use Rattle.words.specs.Written.{Written, written-none, written-more}
 use Rattle.area.specs.Area.{at}
 use Rattle.area.specs.Numbers.{stored, stored-eq}
 use Rattle.peaks.specs.Stored.{number-read}
-use Rattle.quarters.specs.Quads.{Quads, Raisable}
+use Rattle.quads.specs.Quads.{Raisable}
+use Rattle.quarters.specs.Quarters.{Quads}
 
 module _ {q : ℕ} {xs : List ℤ} (k : Quads q xs) where
   pub quad-read : (j : ℕ) → j < q → stored (at xs j) ≡ at xs j

@@ -1,4 +1,3 @@
--- Definitions: Quads. The rest are laws.
-pub mod Quads
-pub mod QuadLaws
+-- Definitions: Quarters. The rest are laws.
+pub mod Quarters
 pub mod QuadSizes

@@ -1,57 +1,27 @@
--- The sizes of the sums and differences of quads: that they are small, how they come into a list after the quads, and where the pair of a
--- size is found. Assumes nothing.
-use Prim.Native.Nat.{ℕ, suc, _+_, _-_, _/_, _%_, _≤_, _<_}
+-- The sizes of the sums and differences of quads: how they come into a list after the quads, and where the pair of a size is found.
+-- Assumes nothing.
+use Prim.Native.Nat.{ℕ, _+_, _-_, _≤_, _<_}
 use mathlib.Core.Path.{_≡_, refl, sym, ap, _∙_, subst}
-use mathlib.Core.Bool.{Bool, true, false, cond}
+use mathlib.Core.Bool.{cond}
 use mathlib.Core.List.{List}
 use mathlib.Core.Logic.{_⊎_, inl, inr, ⊎-elim}
 use native.Mathlib.Decide.{decLt}
 use native.Mathlib.Nat.{mod-lt, mod-eq-of-lt, mod-eq-sub-mod}
 use native.Mathlib.Omega.{arith}
 use lib.Bits.{bitAnd}
-use lib.Dec.{eqb, ltb}
-use lib.IntN.{ℤ, pos, negsuc, negℤ, natAbs, _+ℤ_, _-ℤ_}
+use lib.Dec.{eqb}
+use lib.IntN.{ℤ, pos, _+ℤ_, _-ℤ_}
 use lib.ListN.{length, take, drop}
-use borrow.Author.Tests.{eq-eqb, ne-eqb, lt-ltb, le-ltb, ltb-true, ltb-false}
+use borrow.Author.Tests.{eq-eqb, ne-eqb, lt-ltb, le-ltb}
 use Rattle.words.specs.Parts.{part-at, part-length}
 use Rattle.words.specs.Written.{Written}
 use Rattle.area.specs.Area.{at}
-use Rattle.area.specs.Numbers.{natAbs-add, natAbs-neg}
 use Rattle.peaks.specs.Found.{Held}
 use Rattle.peaks.specs.Pairs.{sizes}
 use Rattle.peaks.specs.Peaks.{joined}
-use Rattle.quarters.specs.Quads.{raised, numberOf, firstSum, lastSum, firstDifference, lastDifference, sumSize, differenceSize}
-use Rattle.quarters.specs.Quads.{firsts, lasts, Quads, FourSized, Sized}
-
--- ---- small sizes
-
--- a digit d, less 64, is from -64 to 191
-pub digit-small : (d : ℕ) → d < 256 → natAbs (pos d -ℤ pos 64) ≤ 191
-digit-small d h = go (ltb d 64) refl
-  where
-    go : (t : Bool) → ltb d 64 ≡ t → natAbs (cond t (negsuc (64 - suc d)) (pos (d - 64))) ≤ 191
-    go true e = omega (arith, ltb-true d 64 e)
-    go false e = omega (arith, ltb-false d 64 e)
-
-pub number-small : (w : ℕ) (z : ℤ) → natAbs (numberOf w z) ≤ 191
-unfolding numberOf
-number-small w z = digit-small (raised z / w % 256) (omega arith)
-
--- the sizes of a pair of sums and of a pair of differences
-module _ (v w : ℕ) (z : ℤ) where
-  sum-most : natAbs (numberOf v z +ℤ numberOf w z) ≤ 382
-  sum-most = omega (arith, natAbs-add (numberOf v z) (numberOf w z), number-small v z, number-small w z)
-
-  difference-most : natAbs (numberOf v z -ℤ numberOf w z) ≤ 382
-  difference-most =
-      let y = numberOf w z in
-      omega (arith, natAbs-add (numberOf v z) (negℤ y), natAbs-neg y, number-small v z, number-small w z)
-
-pub sum-small : (z : ℤ) → sumSize z ≤ 764
-sum-small z = omega (arith, sum-most 1 256 z, sum-most 65536 16777216 z)
-
-pub difference-small : (z : ℤ) → differenceSize z ≤ 764
-difference-small z = omega (arith, difference-most 1 256 z, difference-most 65536 16777216 z)
+use Rattle.quads.specs.Quads.{numberOf, firstSum, lastSum, firstDifference, lastDifference, sumSize, differenceSize}
+use Rattle.quads.specs.Small.{sum-small, difference-small}
+use Rattle.quarters.specs.Quarters.{firsts, lasts, Quads, FourSized, Sized}
 
 -- ---- four quads at a time
 

@@ -11,7 +11,7 @@ use Rattle.area.specs.Numbers.{stored}
 use Rattle.peaks.specs.Found.{Held, held-sizes, held-searched, Searched, searched-many, searched-peak, searched-place}
 use Rattle.peaks.specs.Peaks.{Sizes}
 use Rattle.peaks.specs.Stored.{number-read, as-it-is, size-whole, size-small, peak-as}
-use Rattle.quarters.specs.Quads.{firsts, lasts, Quads}
+use Rattle.quarters.specs.Quarters.{firsts, lasts, Quads}
 use Rattle.quarters.specs.QuadSizes.{sizes-held, sizes-small, sized-quads, lowOf, low-below, first-at, last-at}
 use Rattle.quarters.proofs.QuadReads.{quad-read, quad-raisable}
 use Rattle.quarters.proofs.search.Statement.{statement}

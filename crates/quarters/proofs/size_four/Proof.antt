@@ -6,8 +6,8 @@ use lib.ListN.{length-set}
 use borrow.Author.Needs.{needs}
 use Rattle.area.specs.Area.{at}
 use Rattle.area.specs.Numbers.{stored}
-use Rattle.quarters.specs.Quads.{sumSize, differenceSize, Raisable}
-use Rattle.quarters.specs.QuadSizes.{sum-small, difference-small}
+use Rattle.quads.specs.Quads.{sumSize, differenceSize, Raisable}
+use Rattle.quads.specs.Small.{sum-small, difference-small}
 use Rattle.quarters.proofs.QuadReads.{quad-raisable, four-written}
 use Rattle.quarters.proofs.size_four.Statement.{statement}
 use Rattle.quarters.proofs.size_four.Tie as tie

@@ -4,7 +4,7 @@ use mathlib.Core.Path.{_≡_, refl, subst}
 use native.Mathlib.Omega.{arith}
 use lib.ListN.{length}
 use borrow.Author.Needs.{needs}
-use Rattle.quarters.specs.Quads.{Sized}
+use Rattle.quarters.specs.Quarters.{Sized}
 use Rattle.quarters.specs.QuadSizes.{sized-none, sized-more, sized-quads}
 use Rattle.quarters.proofs.sizes.Statement.{statement}
 use Rattle.quarters.proofs.sizes.Tie as tie

@@ -1,10 +1,10 @@
--- `quarters::pack_four` meets its contract: all four quads are made before the first is written. Assumes nothing.
+-- `quads::pack_four` meets its contract: all four quads are made before the first is written. Assumes nothing.
 use native.Mathlib.Omega.{arith}
 use borrow.Author.Needs.{needs}
 use lib.ListN.{length-set}
-use Rattle.quarters.proofs.QuadCasts.{four-packed}
-use Rattle.quarters.proofs.pack_four.Statement.{statement}
-use Rattle.quarters.proofs.pack_four.Tie as tie
+use Rattle.quads.proofs.QuadCasts.{four-packed}
+use Rattle.quads.proofs.pack_four.Statement.{statement}
+use Rattle.quads.proofs.pack_four.Tie as tie
 
 quad-at-requires : tie.Need-quad-at-requires
 quad-at-requires c κs = search needs

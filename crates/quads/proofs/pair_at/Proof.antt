@@ -1,4 +1,4 @@
--- `quarters::pair_at` meets its contract: the numbers of the quad, and their sums or differences. Assumes nothing.
+-- `quads::pair_at` meets its contract: the numbers of the quad, and their sums or differences. Assumes nothing.
 use mathlib.Core.Path.{_≡_, ap, _∙_}
 use mathlib.Core.Bool.{cond}
 use mathlib.Core.Logic.{⊎-elim}
@@ -9,10 +9,10 @@ use borrow.Author.Tests.{eq-eqb, ne-eqb}
 use mir.Syntax.{w32}
 use mir.Val.{toZ}
 use Rattle.area.specs.Numbers.{stored}
-use Rattle.quarters.specs.Quads.{firstSum, lastSum, firstDifference, lastDifference}
-use Rattle.quarters.proofs.QuadCasts.{Made, sum-made, difference-made, made-fits, made-stored}
-use Rattle.quarters.proofs.pair_at.Statement.{statement}
-use Rattle.quarters.proofs.pair_at.Tie as tie
+use Rattle.quads.specs.Quads.{firstSum, lastSum, firstDifference, lastDifference}
+use Rattle.quads.proofs.QuadCasts.{Made, sum-made, difference-made, made-fits, made-stored}
+use Rattle.quads.proofs.pair_at.Statement.{statement}
+use Rattle.quads.proofs.pair_at.Tie as tie
 
 number-of-requires : tie.Need-number-of-requires
 number-of-requires c κs = search needs

@@ -1,11 +1,11 @@
--- `quarters::quad_at` meets its contract. Assumes nothing.
+-- `quads::quad_at` meets its contract. Assumes nothing.
 use Prim.Native.Nat.{_+_, _*_}
 use native.Mathlib.Omega.{arith}
 use borrow.Author.Needs.{needs}
 use Rattle.area.specs.Area.{at, IsBit}
-use Rattle.quarters.proofs.QuadCasts.{scaled-fits, pair-fits, second-fits, coded-fits, double-fits, signs-fit, signs-are}
-use Rattle.quarters.proofs.quad_at.Statement.{statement}
-use Rattle.quarters.proofs.quad_at.Tie as tie
+use Rattle.quads.proofs.QuadCasts.{scaled-fits, pair-fits, second-fits, coded-fits, double-fits, signs-fit, signs-are}
+use Rattle.quads.proofs.quad_at.Statement.{statement}
+use Rattle.quads.proofs.quad_at.Tie as tie
 
 mul-x : tie.Need-mul-x
 mul-x c = search needs

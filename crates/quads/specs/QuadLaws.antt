@@ -7,7 +7,7 @@ use Rattle.area.specs.Numbers.{natAbs-add}
 use Rattle.hadamard.specs.Correlation.{correlation}
 use Rattle.peaks.specs.Peaks.{packedBy}
 use Rattle.peaks.specs.Packing.{correlation-packed, lifted, packed-size, packed-sum}
-use Rattle.quarters.specs.Quads.{quad, raised, numberOf, Raisable}
+use Rattle.quads.specs.Quads.{quad, raised, numberOf, Raisable}
 
 pub correlation-quad :
     (m : ℕ) (a b c d : ℕ → ℤ) (u : ℕ)

@@ -19,9 +19,9 @@ use Rattle.hadamard.specs.Correlation.{sign}
 use Rattle.hadamard.specs.CorrelationLaws.{sign-size}
 use Rattle.peaks.specs.Peaks.{pairSize}
 use Rattle.peaks.specs.Packing.{lifted}
-use Rattle.quarters.specs.Quads.{quad, raised, numberOf, Raisable, quadSigns, QuarterBits}
-use Rattle.quarters.specs.QuadLaws.{quad-size}
-use Rattle.quarters.specs.QuadSizes.{digit-small, number-small}
+use Rattle.quads.specs.Quads.{quad, raised, numberOf, Raisable, quadSigns, QuarterBits}
+use Rattle.quads.specs.QuadLaws.{quad-size}
+use Rattle.quads.specs.Small.{digit-small, number-small}
 
 -- ---- the signs of four bits: 16843009 - 2 * (x + 65536 * y), where x and y are pairs of bits
 

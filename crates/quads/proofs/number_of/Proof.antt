@@ -1,8 +1,8 @@
--- `quarters::number_of` meets its contract. Assumes nothing.
+-- `quads::number_of` meets its contract. Assumes nothing.
 use borrow.Author.Needs.{needs}
-use Rattle.quarters.proofs.QuadCasts.{raised-fits, raised-casts, lowered-fits, number-is}
-use Rattle.quarters.proofs.number_of.Statement.{statement}
-use Rattle.quarters.proofs.number_of.Tie as tie
+use Rattle.quads.proofs.QuadCasts.{raised-fits, raised-casts, lowered-fits, number-is}
+use Rattle.quads.proofs.number_of.Statement.{statement}
+use Rattle.quads.proofs.number_of.Tie as tie
 
 add-result : tie.Need-add-result
 add-result c = raised-fits (c .pre .0)

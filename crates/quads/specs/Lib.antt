@@ -1,0 +1,4 @@
+-- Definitions: Quads. The rest are laws.
+pub mod Quads
+pub mod QuadLaws
+pub mod Small
