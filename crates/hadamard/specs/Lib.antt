@@ -1,10 +1,9 @@
--- Definitions: Correlation. What the functions ask and promise: Leaf. The rest are laws.
+-- Definitions: Correlation. What the transform asks: Summable. The rest are laws.
 pub mod Correlation
-pub mod Leaf
+pub mod Summable
 pub mod AffineWords
 pub mod CorrelationLaws
 pub mod Peak
 pub mod PeakExt
 pub mod Transform
 pub mod Fours
-pub mod Blocks8

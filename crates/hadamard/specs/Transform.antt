@@ -14,7 +14,7 @@ use Rattle.area.specs.Area.{at}
 use Rattle.area.specs.Numbers.{Half, difference-stored, natAbs-add, natAbs-neg, stored, sum-stored}
 use Rattle.hadamard.specs.Correlation.{correlation, signed}
 use Rattle.hadamard.specs.CorrelationLaws.{correlation-zero, signed-sum}
-use Rattle.hadamard.specs.Leaf.{Summable}
+use Rattle.hadamard.specs.Summable.{Summable}
 use Rattle.words.specs.Butterflies.{Entries, Rule, halved}
 use Rattle.words.specs.ButterflyLaws.{ByHalves, PairsDone, halved-entry, length-halved, pair-room, pairs-more}
 use Rattle.words.specs.Sum.{tabulate, total}

@@ -1,72 +1,107 @@
-// Correlations by the fast transform, and the first order codewords.
+// Correlations by the fast Hadamard transform.
 ghost use mathlib.Core.Path.{_≡_};
-ghost use Prim.Native.Nat.{_+_, _%_, _^_, _<_};
+ghost use Prim.Native.Nat.{_+_, _^_};
 ghost use lib.ListN.{length};
-ghost use lib.IntN.{pos, natAbs};
-ghost use lib.Bits.{bitAnd};
-ghost use lib.Count.{ones};
 ghost use Rattle.words.specs.Sum.{tabulate};
-ghost use Rattle.words.specs.Written.{Written};
-ghost use Rattle.area.specs.Area.{IsBit};
-ghost use Rattle.hadamard.specs.Leaf.{affineAt, repeated, Repeats};
+ghost use Rattle.words.specs.Butterflies.{butterflies, halved, Entries, Blocked, BlocksDone};
+ghost use Rattle.area.specs.Area.{at};
+ghost use Rattle.hadamard.specs.Correlation.{correlation};
+ghost use Rattle.hadamard.specs.Summable.{Summable};
+ghost use Rattle.hadamard.specs.Transform.{sums};
 
-pub mod transform;
-
-// The parity of the ones in u.
-fn parity(u: usize) -> i32
-    requires { ⌜ u < 2 ^ 32 ⌝ }
-    ensures { λ t. ⌜ t ≡ pos (ones u % 2) ⌝ }
+// The sums of two halves of h numbers, then their differences, in place.
+fn butterfly(a: &mut [i32], h: usize)
+    requires { ⌜ Entries sums (h + h) 1 (now a) ⌝ }
+    ensures { λ _. ⌜ now (a .exit) ≡ butterflies sums h (now (a .entry)) ⌝ }
 {
-    (u32::count_ones(u as u32) % 2) as i32
-}
-
-// The first order codeword of mask u and constant s, a parity for each place.
-fn by_place(a: &mut [i32], u: usize, s: i32)
-    requires { ⌜ IsBit s × (u < 2 ^ 32) ⌝ }
-    ensures { λ _. ⌜ now (a .exit) ≡ tabulate (length (now (a .entry))) (affineAt u s) ⌝ }
-{
-    for p in 0..a.len() {
-        a[p] = s ^ parity(u & p);
+    let mut i = 0;
+    while i < h {
+        let j = h + i;
+        let x = a[i];
+        let y = a[j];
+        a[i] = x + y;
+        a[j] = x - y;
+        i += 1;
     }
 }
 
-// Four places from b on: those from i on with the bit t added.
-// All are read before any is written, so that the compiler takes them together.
-fn repeat_four(a: &mut [i32], i: usize, b: usize, t: i32)
-    requires { ⌜ Repeats i b t (now a) ⌝ }
-    ensures { λ _. ⌜ Written (pos 0) b 4 (repeated t i (now (a .entry))) (now (a .entry)) (now (a .exit)) ⌝ }
+// The transform of 2 numbers.
+fn two(a: &mut [i32])
+    requires { ⌜ Entries sums 2 1 (now a) ⌝ }
+    ensures { λ _. ⌜ now (a .exit) ≡ halved sums 1 (now (a .entry)) ⌝ }
 {
-    let x0 = a[i] ^ t;
-    let x1 = a[i + 1] ^ t;
-    let x2 = a[i + 2] ^ t;
-    let x3 = a[i + 3] ^ t;
-    a[b] = x0;
-    a[b + 1] = x1;
-    a[b + 2] = x2;
-    a[b + 3] = x3;
+    butterfly(a, 1);
 }
 
-// The first order codeword of mask u and constant s: a parity for each of the first 4 places, one for the next 4, and one for each further
-// block of 8.
-pub fn write_affine(a: &mut [i32], u: usize, s: i32)
-    requires { ⌜ IsBit s × (u < 1024) ⌝ }
-    ensures { λ _. ⌜ now (a .exit) ≡ tabulate (length (now (a .entry))) (λ p. pos ((natAbs s + ones (bitAnd u p)) % 2)) ⌝ }
+// The transform of 4 numbers: all are read before any is written, so that the compiler takes them together.
+fn four(a: &mut [i32])
+    requires { ⌜ Entries sums 4 2 (now a) ⌝ }
+    ensures { λ _. ⌜ now (a .exit) ≡ halved sums 2 (now (a .entry)) ⌝ }
+{
+    let x0 = a[0];
+    let x1 = a[1];
+    let x2 = a[2];
+    let x3 = a[3];
+    let s = x0 + x1;
+    let d = x0 - x1;
+    let t = x2 + x3;
+    let e = x2 - x3;
+    a[0] = s + t;
+    a[1] = d + e;
+    a[2] = s - t;
+    a[3] = d - e;
+}
+
+// The transform of each block of 4 numbers.
+fn fours(a: &mut [i32])
+    requires { ⌜ Blocked sums 4 2 (now a) ⌝ }
+    ensures { λ _. ⌜ BlocksDone (halved sums 2) 4 (length (now (a .entry))) (now (a .entry)) (now (a .exit)) ⌝ }
 {
     let n = a.len();
-    if n == 0 {
+    let mut b = 0;
+    while b < n {
+        let e = b + 4;
+        four(&mut a[b..e]);
+        b = e;
+    }
+}
+
+// The butterflies of each block of two halves of h numbers.
+fn level(a: &mut [i32], h: usize)
+    requires { ⌜ Blocked sums (h + h) 1 (now a) ⌝ }
+    ensures { λ _. ⌜ BlocksDone (butterflies sums h) (h + h) (length (now (a .entry))) (now (a .entry)) (now (a .exit)) ⌝ }
+{
+    let n = a.len();
+    let s = h + h;
+    let mut b = 0;
+    while b < n {
+        let e = b + s;
+        butterfly(&mut a[b..e], h);
+        b = e;
+    }
+}
+
+// The correlation of every mask with the values in a, in place: blocks of 4 first, then level by level. The first level is a call of its
+// own with a literal, which the compiler unrolls.
+pub fn correlate(a: &mut [i32], m: usize)
+    requires { ⌜ Summable m (now a) ⌝ }
+    ensures { λ _. ⌜ now (a .exit) ≡ tabulate (2 ^ m) (correlation m (at (now (a .entry)))) ⌝ }
+{
+    if m == 0 {
         return;
     }
-    if n % 8 != 0 {
-        by_place(a, u, s);
+    if m == 1 {
+        two(a);
         return;
     }
-    by_place(&mut a[0..4], u, s);
-    repeat_four(a, 0, 4, parity(u & 4));
-    let mut b = 8;
-    while b != n {
-        let t = parity(u & b);
-        repeat_four(a, 0, b, t);
-        repeat_four(a, 4, b + 4, t);
-        b += 8;
+    fours(a);
+    if m == 2 {
+        return;
+    }
+    level(a, 4);
+    let mut h: usize = 8;
+    while h < a.len() {
+        level(a, h);
+        h = h + h;
     }
 }

@@ -16,8 +16,8 @@ use Rattle.area.specs.AreaLaws.{is-bit, bit-back, bits-at, wordOf-word}
 use Rattle.area.specs.Numbers.{stored}
 use Rattle.hadamard.specs.Correlation.{values, correlation, affine, constantOf}
 use Rattle.hadamard.specs.AffineWords.{bit-affine, word-affine}
-use Rattle.hadamard.specs.Blocks8.{affine-front}
-use Rattle.hadamard.specs.Leaf.{affineAt}
+use Rattle.affine.specs.Blocks.{affine-front}
+use Rattle.affine.specs.Affine.{affineAt}
 use Rattle.hadamard.specs.CorrelationLaws.{constantOf-lt, whole-affine}
 use Rattle.peaks.specs.declared.Peak.{Peak}
 use Rattle.peaks.specs.Peaks.{IsPeak}

@@ -81,7 +81,7 @@ fn first_order_in(m: usize, part: &mut [i32]) -> Told
     }
     let mask = peak.mask;
     let constant = peak.constant;
-    hadamard::write_affine(&mut part[0..n], mask, constant);
+    affine::write_affine(&mut part[0..n], mask, constant);
     changed(Decoded::Accepted(0, 1))
 }
 

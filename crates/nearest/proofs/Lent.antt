@@ -15,7 +15,7 @@ use Rattle.words.specs.Written.{Written}
 use Rattle.area.specs.Area.{at, Bits, SameFront, wordOf}
 use Rattle.hadamard.specs.Correlation.{values, correlation}
 use Rattle.hadamard.specs.CorrelationLaws.{correlation-ext}
-use Rattle.hadamard.specs.Leaf.{Summable}
+use Rattle.hadamard.specs.Summable.{Summable}
 use Rattle.peaks.specs.declared.Peak.{Peak}
 use Rattle.peaks.specs.Peaks.{IsPeak}
 use Rattle.nearest.specs.Nearest.{Packable, PackedAfter, Searchable, placesOf, searched}

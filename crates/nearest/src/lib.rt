@@ -61,7 +61,7 @@ pub fn find_peak(m: usize, area: &mut [i32]) -> Peak
     let q = words::size(k);
     pack(quarters, q, area);
     let e = n + q;
-    hadamard::transform::correlate(&mut area[n..e], k);
+    hadamard::correlate(&mut area[n..e], k);
     let end = n + n;
     search(quarters, q, &mut area[n..end])
 }

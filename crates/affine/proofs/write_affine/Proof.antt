@@ -1,4 +1,4 @@
--- `hadamard::write_affine` meets its contract: four places by parity, four more, and each turn of the loop writes one block of 8. Assumes nothing.
+-- `affine::write_affine` meets its contract: four places by parity, four more, and each turn of the loop writes one block of 8. Assumes nothing.
 use Prim.Native.Nat.{_+_, _-_, _%_, _^_, _≤_, _<_}
 use mathlib.Core.Path.{_≡_, refl, ap, _∙_}
 use native.Mathlib.Omega.{arith}
@@ -15,10 +15,10 @@ use Rattle.words.specs.Parts.{front-length, back-length}
 use Rattle.area.specs.Area.{IsBit}
 use Rattle.area.specs.AreaLaws.{bit-back}
 use Rattle.area.specs.Numbers.{stored}
-use Rattle.hadamard.specs.Leaf.{affineAt}
-use Rattle.hadamard.specs.Blocks8.{parity-bit, Affine, affine-none, repeats, affine-more, affine-all, affine-front}
-use Rattle.hadamard.proofs.write_affine.Statement.{statement}
-use Rattle.hadamard.proofs.write_affine.Tie as tie
+use Rattle.affine.specs.Affine.{affineAt}
+use Rattle.affine.specs.Blocks.{parity-bit, Affine, affine-none, repeats, affine-more, affine-all, affine-front}
+use Rattle.affine.proofs.write_affine.Statement.{statement}
+use Rattle.affine.proofs.write_affine.Tie as tie
 
 abbrev Inv-loop : tie.InvT-loop
 Inv-loop a₀ u s n b₀ a b = (b % 8 ≡ 0) × (8 ≤ b) × (b ≤ n) × (length a ≡ n) × Affine u (toZ w32 s) b a

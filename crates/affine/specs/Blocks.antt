@@ -20,7 +20,7 @@ use Rattle.words.specs.Written.{Written, written-none, written-more}
 use Rattle.area.specs.Area.{at, IsBit}
 use Rattle.area.specs.AreaLaws.{is-bit, bit-back, bits-xor}
 use Rattle.area.specs.Numbers.{stored}
-use Rattle.hadamard.specs.Leaf.{affineAt, repeated, Repeats}
+use Rattle.affine.specs.Affine.{affineAt, repeated, Repeats}
 use Rattle.words.specs.Parts.{back-within}
 
 -- ---- the ones in u AND p, by blocks of 2 ^ h places

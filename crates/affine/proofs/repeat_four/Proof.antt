@@ -1,10 +1,10 @@
--- `hadamard::repeat_four` meets its contract: all four bits are read before the first is written. Assumes nothing.
+-- `affine::repeat_four` meets its contract: all four bits are read before the first is written. Assumes nothing.
 use borrow.Author.Needs.{needs}
 use native.Mathlib.Omega.{arith}
 use lib.ListN.{length-set}
-use Rattle.hadamard.specs.Blocks8.{four-repeated}
-use Rattle.hadamard.proofs.repeat_four.Statement.{statement}
-use Rattle.hadamard.proofs.repeat_four.Tie as tie
+use Rattle.affine.specs.Blocks.{four-repeated}
+use Rattle.affine.proofs.repeat_four.Statement.{statement}
+use Rattle.affine.proofs.repeat_four.Tie as tie
 
 mul-x0 : tie.Need-mul-x0
 mul-x0 c = search needs

@@ -1,9 +1,9 @@
--- `hadamard::parity` meets its contract. Assumes nothing.
+-- `affine::parity` meets its contract. Assumes nothing.
 use Rattle.area.specs.Numbers.{byte-number}
 use native.Mathlib.Omega.{arith}
 use borrow.Author.Needs.{needs}
-use Rattle.hadamard.proofs.parity.Statement.{statement}
-use Rattle.hadamard.proofs.parity.Tie as tie
+use Rattle.affine.proofs.parity.Statement.{statement}
+use Rattle.affine.proofs.parity.Tie as tie
 
 cast-result : tie.Need-cast-result
 cast-result c = search needs

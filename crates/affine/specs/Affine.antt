@@ -1,17 +1,11 @@
--- What the functions ask and promise. Assumes nothing.
-use Prim.Native.Nat.{ℕ, _+_, _*_, _%_, _^_, _≤_, _<_}
-use mathlib.Core.Path.{_≡_}
+-- First order codewords as numbers, and four of their places repeated. Assumes nothing.
+use Prim.Native.Nat.{ℕ, _+_, _%_, _≤_, _<_}
 use mathlib.Core.List.{List}
 use lib.ListN.{length}
 use lib.Bits.{bitAnd}
 use lib.Count.{ones}
 use lib.IntN.{ℤ, pos, natAbs}
 use Rattle.area.specs.Area.{at, IsBit}
-
--- 2 ^ m numbers, small enough that m levels of sums fit 32 bits
-pub record Summable (m : ℕ) (a : List ℤ) : Type 0 where
-  pub size : length a ≡ 2 ^ m
-  pub small : (i : ℕ) → natAbs (at a i) * 2 ^ m < 2 ^ 31
 
 -- the number at place p of the codeword of mask u and constant s
 abbrev pub affineAt : ℕ → ℤ → ℕ → ℤ

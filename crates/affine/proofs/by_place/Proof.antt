@@ -1,4 +1,4 @@
--- `hadamard::by_place` meets its contract. Assumes nothing.
+-- `affine::by_place` meets its contract. Assumes nothing.
 use Prim.Native.Nat.{_-_, _≤_}
 use mathlib.Core.Path.{_≡_, refl, ap, _∙_}
 use native.Mathlib.Omega.{arith}
@@ -12,10 +12,10 @@ use mir.Syntax.{w32}
 use mir.Val.{toZ}
 use Rattle.words.specs.Written.{Written, written-none, written-more, written-to, written-all}
 use Rattle.area.specs.AreaLaws.{bit-back}
-use Rattle.hadamard.specs.Leaf.{affineAt}
-use Rattle.hadamard.specs.Blocks8.{place-is}
-use Rattle.hadamard.proofs.by_place.Statement.{statement}
-use Rattle.hadamard.proofs.by_place.Tie as tie
+use Rattle.affine.specs.Affine.{affineAt}
+use Rattle.affine.specs.Blocks.{place-is}
+use Rattle.affine.proofs.by_place.Statement.{statement}
+use Rattle.affine.proofs.by_place.Tie as tie
 
 abbrev Inv-loop : tie.InvT-loop
 Inv-loop a₀ u s p₀ p-end a p = (p-end ≡ length a₀) × (p ≤ length a₀) × (length a ≡ length a₀) × Written (pos 0) 0 p (affineAt u (toZ w32 s)) a₀ a

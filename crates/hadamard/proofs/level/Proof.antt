@@ -1,4 +1,4 @@
--- `hadamard::transform::level` meets its contract: a turn does one block. Assumes nothing.
+-- `hadamard::level` meets its contract: a turn does one block. Assumes nothing.
 use Prim.Native.Nat.{_+_, _-_}
 use native.Mathlib.Omega.{arith}
 use lib.ListN.{length}
@@ -7,8 +7,8 @@ use Rattle.words.specs.Blocks.{blocks-none, block-fits, block-lent, block-back,
 use Rattle.words.specs.Levels.{butterflies-keep}
 use Rattle.hadamard.specs.Transform.{sums}
 use borrow.Author.Needs.{needs}
-use Rattle.hadamard.proofs.transform.level.Statement.{statement}
-use Rattle.hadamard.proofs.transform.level.Tie as tie
+use Rattle.hadamard.proofs.level.Statement.{statement}
+use Rattle.hadamard.proofs.level.Tie as tie
 
 abbrev Inv-loop : tie.InvT-loop
 Inv-loop a₀ h n s b₀ a b = BlocksDone (butterflies sums h) (h + h) b a₀ a

@@ -1,4 +1,4 @@
--- `hadamard::transform::butterfly` meets its contract: a turn does one pair. Assumes nothing.
+-- `hadamard::butterfly` meets its contract: a turn does one pair. Assumes nothing.
 use Prim.Native.Nat.{_+_, _-_, _≤_}
 use native.Mathlib.Omega.{arith}
 use lib.ListN.{length-set}
@@ -7,10 +7,10 @@ use Rattle.words.specs.ButterflyLaws.{PairsDone, pairs-none, pairs-all}
 use Rattle.area.specs.Area.{at}
 use Rattle.area.specs.Numbers.{Half, sum-fits, difference-fits}
 use Rattle.hadamard.specs.Transform.{sums, pair-first, pair-second, pair-summed}
-use Rattle.hadamard.proofs.transform.butterfly.Statement.{statement}
-use Rattle.hadamard.proofs.transform.butterfly.Tie as tie
-use Rattle.hadamard.proofs.transform.butterfly.Reads as reads
-use Rattle.hadamard.proofs.transform.butterfly.Lts as lts
+use Rattle.hadamard.proofs.butterfly.Statement.{statement}
+use Rattle.hadamard.proofs.butterfly.Tie as tie
+use Rattle.hadamard.proofs.butterfly.Reads as reads
+use Rattle.hadamard.proofs.butterfly.Lts as lts
 
 abbrev Inv-loop : tie.InvT-loop
 Inv-loop a₀ h i₀ a i = (i ≤ h) × PairsDone sums h i a₀ a

@@ -1,4 +1,4 @@
--- `hadamard::transform::correlate` meets its contract: each level transforms blocks of twice the size. Assumes nothing.
+-- `hadamard::correlate` meets its contract: each level transforms blocks of twice the size. Assumes nothing.
 use Prim.Native.Nat.{ℕ, _-_, _^_, _≤_, _<_}
 use mathlib.Core.Path.{ap, _∙_}
 use mathlib.Core.List.{List}
@@ -10,8 +10,8 @@ use Rattle.words.specs.Butterflies.{Entries}
 use Rattle.words.specs.ButterflyLaws.{halved-zero, halved-at}
 use Rattle.words.specs.Levels.{Transformed, whole-blocks, transformed-blocks, transformed-length, transformed-all, next-level, level-done}
 use Rattle.hadamard.specs.Transform.{sums, summable-entries, halved-correlation}
-use Rattle.hadamard.proofs.transform.correlate.Statement.{statement}
-use Rattle.hadamard.proofs.transform.correlate.Tie as tie
+use Rattle.hadamard.proofs.correlate.Statement.{statement}
+use Rattle.hadamard.proofs.correlate.Tie as tie
 
 abbrev Inv-loop : tie.InvT-loop
 Inv-loop a₀ m h₀ a h = (x : List ℤ) → Entries sums (2 ^ m) m x → Transformed sums m 8 x a₀ → Transformed sums m h x a

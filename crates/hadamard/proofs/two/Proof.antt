@@ -1,10 +1,10 @@
--- `hadamard::transform::two` meets its contract. Assumes nothing.
+-- `hadamard::two` meets its contract. Assumes nothing.
 use mathlib.Core.Path.{_∙_}
 use Rattle.words.specs.ButterflyLaws.{halved-one}
 use Rattle.hadamard.specs.Transform.{sums}
 use borrow.Author.Needs.{needs}
-use Rattle.hadamard.proofs.transform.two.Statement.{statement}
-use Rattle.hadamard.proofs.transform.two.Tie as tie
+use Rattle.hadamard.proofs.two.Statement.{statement}
+use Rattle.hadamard.proofs.two.Tie as tie
 
 butterfly-requires : tie.Need-butterfly-requires
 butterfly-requires c κs = search needs

@@ -1,0 +1,3 @@
+-- Definitions: Affine. The rest are laws.
+pub mod Affine
+pub mod Blocks
