@@ -20,7 +20,7 @@ use Rattle.direction.specs.Direction.{project}
 use Rattle.cosets.specs.Votes.{Tally}
 use Rattle.rule.specs.Reading.{Outcome, accepted, refused, vote, votes, abstained, flipped, flips}
 use Rattle.rule.specs.Rounds.{flips-word, still}
-use Rattle.steps.specs.Steps.{flipOf}
+use Rattle.flips.specs.Flips.{flipOf}
 use Rattle.readings.proofs.Fronts.{front-kept}
 
 pub vote-le : (b : ℕ) (v : List ℕ) (o : Outcome) (p : ℕ) → vote b v o p ≤ 1

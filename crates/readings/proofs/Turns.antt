@@ -28,7 +28,7 @@ use Rattle.rule.specs.Decoding.{limited}
 use Rattle.rule.specs.DecodingLaws.{limited-within}
 use Rattle.rule.specs.Calls.{valuesOf}
 use Rattle.leaves.specs.Leaves.{Read}
-use Rattle.steps.specs.Steps.{flipOf}
+use Rattle.flips.specs.Flips.{flipOf}
 use Rattle.steps.specs.declared.Count.{Count}
 use Rattle.steps.specs.declared.Count.the-variants.{Done, Exhausted}
 use Rattle.readings.specs.Readings.{Ready, Voted}

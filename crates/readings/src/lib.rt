@@ -1,6 +1,8 @@
 // Readings and rounds, each starting the other, the order falling.
 // A reading at exponent m has its word in the first 2^m numbers of its area; above order 1 the next 2^m are votes, and what is left is
 // lent to the readings one order lower.
+use flips::flip;
+use flips::settle;
 use leaves::Told;
 use leaves::changed;
 use leaves::first_order;
@@ -9,8 +11,6 @@ use refusals::Decoded;
 use refusals::Refusal;
 use steps::Count;
 use steps::cast;
-use steps::flip;
-use steps::settle;
 ghost use mathlib.Core.Path.{_≡_};
 ghost use Prim.Native.Nat.{ℕ, suc, _+_, _*_, _^_, _≤_, _<_};
 ghost use lib.ListN.{length};

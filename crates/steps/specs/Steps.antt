@@ -1,16 +1,13 @@
--- What a direction's votes and a round's flips ask and promise. Assumes nothing.
-use Prim.Native.Nat.{ℕ, suc, _+_, _-_, _^_, _<_}
+-- What a direction's votes ask and promise. Assumes nothing.
+use Prim.Native.Nat.{ℕ, suc, _^_, _<_}
 use mathlib.Core.Path.{_≡_}
 use mathlib.Core.Bool.{true, cond}
 use mathlib.Core.List.{List}
 use lib.Dec.{eqb}
-use lib.IntN.{ℤ, natAbs}
-use Rattle.words.specs.Word.{indicator}
-use Rattle.area.specs.Area.{at}
+use lib.IntN.{ℤ}
 use Rattle.refusals.specs.declared.Decoded.{Decoded}
 use Rattle.refusals.specs.declared.Decoded.the-variants.{Accepted, Refused}
 use Rattle.cosets.specs.Votes.{InProjection, castVote}
-use Rattle.rule.specs.Reading.{flipped}
 use Rattle.rule.specs.Decoding.{Values, values}
 use Rattle.leaves.specs.declared.Told.{Told}
 use Rattle.steps.specs.declared.Count.{Count}
@@ -24,10 +21,6 @@ countIn (values e k l) = cond (eqb e 12) Exhausted (Done l)
 abbrev pub voteOf : ℕ → ℕ → List ℤ → Decoded → ℕ → ℕ
 voteOf m b xs (Accepted k l) p = castVote m b xs p
 voteOf m b xs (Refused why k l) p = 0
-
--- 1 where the votes after the word of n places flip place p, a directions abstaining
-abbrev pub flipOf : ℕ → ℕ → List ℤ → ℕ → ℕ
-flipOf n a xs p = indicator (flipped (natAbs (at xs (n + p))) (n - 1) a)
 
 -- an accepted direction has its decoded word where the projection was
 abbrev pub Voter : ℕ → Decoded → List ℤ → Type 0

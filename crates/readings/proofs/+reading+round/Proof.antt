@@ -17,10 +17,10 @@ use Rattle.leaves.proofs.zero_order.Reads as zero-order-reads
 use Rattle.leaves.proofs.changed.Reads as changed-reads
 use Rattle.leaves.specs.LeafLaws.{changed-tells}
 use Rattle.steps.proofs.cast.Reads as cast-reads
-use Rattle.steps.proofs.flip.Reads as flip-reads
+use Rattle.flips.proofs.flip.Reads as flip-reads
 use Rattle.readings.proofs.Directions.{Round, Poll, Zeroed, Stage, Lent, Answered, Cast, From, round-of, start-long, start-from, start-poll, stage-projects, lent-ready, answered-cast, cast-front, cast-long, cast-over, cast-few, cast-more, poll-done, poll-spent}
 use Rattle.readings.proofs.Turns.{Series, Turn, Made, Flips, series, turn-first, turn-last, turn-exhausted, ready-round, made-few, made-flips, flips-bits, flips-again, flips-settled, flips-kept, read-zero, read-one, read-none}
-use Rattle.steps.proofs.settle.Reads as settle-reads
+use Rattle.flips.proofs.settle.Reads as settle-reads
 use Rattle.readings.proofs.reading.Reads as reading
 use Rattle.readings.proofs.reading.Kinds as reading-kinds
 use Rattle.readings.proofs.round.Reads as round

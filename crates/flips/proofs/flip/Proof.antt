@@ -1,4 +1,4 @@
--- `steps::flip` meets its contract: the loop flips the places passed. Assumes nothing.
+-- `flips::flip` meets its contract: the loop flips the places passed. Assumes nothing.
 use Prim.Native.Nat.{ℕ, _+_, _-_, _*_, _%_, _≤_, _<_}
 use mathlib.Core.Path.{_≡_, refl, sym, ap, _∙_}
 use mathlib.Core.Bool.{Bool, true, false, _&&_}
@@ -21,9 +21,9 @@ use Rattle.area.specs.Area.{at, Bits, IsBit, zero-bit, one-bit, wordOf}
 use Rattle.area.specs.AreaLaws.{bit-wordOf}
 use Rattle.area.specs.Numbers.{stored, stored-eq}
 use Rattle.rule.specs.Reading.{flipped}
-use Rattle.steps.specs.Steps.{flipOf}
-use Rattle.steps.proofs.flip.Statement.{statement}
-use Rattle.steps.proofs.flip.Tie as tie
+use Rattle.flips.specs.Flips.{flipOf}
+use Rattle.flips.proofs.flip.Statement.{statement}
+use Rattle.flips.proofs.flip.Tie as tie
 
 abbrev flippedAt : ℕ → List ℤ → ℕ → ℤ
 flippedAt n xs p = pos ((bit (wordOf n xs) p + flipOf n 0 xs p) % 2)

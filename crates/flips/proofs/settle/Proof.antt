@@ -1,4 +1,4 @@
--- `steps::settle` meets its contract. Assumes nothing.
+-- `flips::settle` meets its contract. Assumes nothing.
 use borrow.Author.Needs.{needs}
 use Prim.Native.Nat.{ℕ}
 use mathlib.Core.Path.{sym, ap, _∙_}
@@ -7,8 +7,8 @@ use borrow.Author.Tests.{eqb-true}
 use Rattle.refusals.specs.declared.Refusal.the-variants.{Unsettled}
 use Rattle.refusals.specs.declared.Decoded.{Decoded}
 use Rattle.refusals.specs.declared.Decoded.the-variants.{Accepted, Refused}
-use Rattle.steps.proofs.settle.Statement.{statement}
-use Rattle.steps.proofs.settle.Tie as tie
+use Rattle.flips.proofs.settle.Statement.{statement}
+use Rattle.flips.proofs.settle.Tie as tie
 
 -- the answer by the test
 abbrev answer : ℕ → ℕ → Bool → Decoded

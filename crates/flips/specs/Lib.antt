@@ -1,0 +1,2 @@
+-- Definitions: Flips.
+pub mod Flips
