@@ -6,17 +6,17 @@ use mathlib.Core.List.{List}
 use native.Mathlib.Omega.{arith}
 use borrow.Author.Tests.{ltb-true, ltb-false}
 use lib.Dec.{T, ltb}
-use lib.IntN.{ℤ, pos, negsuc, natAbs, _+ℤ_, _-ℤ_, _*ℤ_}
+use lib.IntN.{ℤ, pos, natAbs, _+ℤ_, _-ℤ_, _*ℤ_}
 use lib.Signed.{ltZ, nonNeg}
 use mir.Syntax.{w32}
 use mir.Val.{Fits, SFits, toZ}
-use mir.Facts.{toZ-ofZ, toZ-pos}
+use mir.Facts.{toZ-pos}
 use Rattle.words.specs.Written.{Written}
 use Rattle.area.specs.Area.{at, IsBit, zero-bit, one-bit}
-use Rattle.area.specs.Numbers.{Half, stored, stored-eq, fits-32, natAbs-add}
+use Rattle.area.specs.Numbers.{Half, stored, stored-eq, natAbs-add}
 use Rattle.hadamard.specs.Correlation.{sign}
 use Rattle.peaks.specs.Peaks.{packed, raised, firstOf, secondOf, Packed}
-use Rattle.peaks.specs.Packing.{lifted}
+use Rattle.peaks.specs.Stored.{raise-fits, raise-is, raise-casts, lower-is}
 
 -- ---- sizes
 
@@ -72,47 +72,33 @@ signs-are one-bit one-bit = refl
 
 -- ---- the numbers of a packed pair
 
--- a digit d, less 1024
-module _ (d : ℕ) (h : d < 2 ^ 30) where
-  lowered-small : natAbs (pos d -ℤ pos 1024) < 2 ^ 31
-  lowered-small = omega (arith, natAbs-add (pos d) (negsuc 1023))
-
-  pub lowered-fits : SFits w32 (toZ w32 d -ℤ pos 1024)
-  lowered-fits = rw (size-held d (omega arith)) (fits-32 _ lowered-small)
-
-  pub lowered-is : stored (toZ w32 d -ℤ pos 1024) ≡ pos d -ℤ pos 1024
-  lowered-is = rw (size-held d (omega arith)) (stored-eq _ lowered-small)
-
 module _ (z : ℤ) (h : natAbs z < 2097152) where
-  raised-small : raised z < 2 ^ 30
-  raised-small = omega (arith, natAbs-add z (pos 2098176))
+  abbrev raisedStored : ℤ
+  raisedStored = stored (stored z +ℤ pos 2098176)
 
   pub raised-fits : SFits w32 (stored z +ℤ pos 2098176)
-  raised-fits = rw (stored-eq z (omega arith)) (fits-32 _ (omega (arith, raised-small)))
+  raised-fits = raise-fits 2098176 z (omega arith) (omega arith)
 
-  raised-stored : stored (stored z +ℤ pos 2098176) ≡ pos (raised z)
-  raised-stored = toZ-ofZ raised-fits ∙ rw (stored-eq z (omega arith)) (lifted 2098176 z (omega arith))
+  pub raised-casts : T (nonNeg raisedStored) × Fits w32 (natAbs raisedStored)
+  raised-casts = raise-casts 2098176 z (omega arith) (omega arith)
 
-  pub raised-casts : T (nonNeg (stored (stored z +ℤ pos 2098176))) × Fits w32 (natAbs (stored (stored z +ℤ pos 2098176)))
-  raised-casts = rw raised-stored (tt, record { fits = omega (arith, raised-small) })
-
-  pub raised-is : natAbs (stored (stored z +ℤ pos 2098176)) ≡ raised z
-  raised-is = ap natAbs raised-stored
+  raised-is : natAbs raisedStored ≡ raised z
+  raised-is = ap natAbs (raise-is 2098176 z (omega arith) (omega arith))
 
   -- the digits are small
-  pub first-small : natAbs (stored (stored z +ℤ pos 2098176)) % 2048 < 2 ^ 30
+  pub first-small : natAbs raisedStored % 2048 + 1024 < 2 ^ 31
   first-small = omega arith
 
-  pub second-small : natAbs (stored (stored z +ℤ pos 2098176)) / 2048 < 2 ^ 30
-  second-small = rw raised-is (omega (arith, raised-small))
+  pub second-small : natAbs raisedStored / 2048 + 1024 < 2 ^ 31
+  second-small = rw raised-is (omega (arith, natAbs-add z (pos 2098176)))
 
-  pub first-is : stored (toZ w32 (natAbs (stored (stored z +ℤ pos 2098176)) % 2048) -ℤ pos 1024) ≡ firstOf z
+  pub first-is : stored (toZ w32 (natAbs raisedStored % 2048) -ℤ pos 1024) ≡ firstOf z
   unfolding firstOf
-  first-is = lowered-is _ first-small ∙ rw raised-is
+  first-is = lower-is 1024 _ first-small ∙ rw raised-is
 
-  pub second-is : stored (toZ w32 (natAbs (stored (stored z +ℤ pos 2098176)) / 2048) -ℤ pos 1024) ≡ secondOf z
+  pub second-is : stored (toZ w32 (natAbs raisedStored / 2048) -ℤ pos 1024) ≡ secondOf z
   unfolding secondOf
-  second-is = lowered-is _ second-small ∙ rw raised-is
+  second-is = lower-is 1024 _ second-small ∙ rw raised-is
 
 -- ---- the size of a pair
 

@@ -89,8 +89,8 @@ pub lifted : (k : ℕ) (x : ℤ) → natAbs x ≤ k → x +ℤ pos k ≡ pos (na
 lifted k (pos a) h = refl
 lifted k (negsuc a) h = rw (le-ltb k (suc a) h)
 
-lifted-back : (x : ℤ) → natAbs x ≤ 512 → pos (natAbs (x +ℤ pos 1024)) -ℤ pos 1024 ≡ x
-lifted-back x h = ap (λ (z : ℤ). z -ℤ pos 1024) (sym (lifted 1024 x (omega arith))) ∙ +ℤ-negℤ-cancel x (pos 1024)
+pub lifted-back : (k : ℕ) (x : ℤ) → natAbs x ≤ k → pos (natAbs (x +ℤ pos k)) -ℤ pos k ≡ x
+lifted-back k x h = ap (λ (z : ℤ). z -ℤ pos k) (sym (lifted k x h)) ∙ +ℤ-negℤ-cancel x (pos k)
 
 module _ (x y : ℤ) (hx : natAbs x ≤ 512) (hy : natAbs y ≤ 512) where
   pub packed-small : natAbs (packed x y) < 2097152
@@ -104,13 +104,13 @@ module _ (x y : ℤ) (hx : natAbs x ≤ 512) (hy : natAbs y ≤ 512) where
   unfolding firstOf
   first-packed =
       let digit : raised (packed x y) % 2048 ≡ natAbs (x +ℤ pos 1024) = omega (arith, raised-digits, natAbs-add x (pos 1024)) in
-      ap (λ (d : ℕ). pos d -ℤ pos 1024) digit ∙ lifted-back x hx
+      ap (λ (d : ℕ). pos d -ℤ pos 1024) digit ∙ lifted-back 1024 x (omega arith)
 
   pub second-packed : secondOf (packed x y) ≡ y
   unfolding secondOf
   second-packed =
       let digit : raised (packed x y) / 2048 ≡ natAbs (y +ℤ pos 1024) = omega (arith, raised-digits, natAbs-add x (pos 1024)) in
-      ap (λ (d : ℕ). pos d -ℤ pos 1024) digit ∙ lifted-back y hy
+      ap (λ (d : ℕ). pos d -ℤ pos 1024) digit ∙ lifted-back 1024 y (omega arith)
 
 -- ---- the size of a correlation
 

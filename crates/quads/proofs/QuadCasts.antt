@@ -10,7 +10,7 @@ use lib.ListN.{set}
 use lib.Signed.{nonNeg}
 use mir.Syntax.{w32}
 use mir.Val.{Fits, SFits, toZ}
-use mir.Facts.{toZ-ofZ, toZ-pos}
+use mir.Facts.{toZ-ofZ}
 use Rattle.words.specs.Written.{Written, written-none, written-more}
 use Rattle.area.specs.Area.{at, IsBit, zero-bit, one-bit}
 use Rattle.area.specs.AreaLaws.{bit-lt}
@@ -18,10 +18,10 @@ use Rattle.area.specs.Numbers.{Half, stored, stored-eq, fits-32, natAbs-add, na
 use Rattle.hadamard.specs.Correlation.{sign}
 use Rattle.hadamard.specs.CorrelationLaws.{sign-size}
 use Rattle.peaks.specs.Peaks.{pairSize}
-use Rattle.peaks.specs.Packing.{lifted}
+use Rattle.peaks.specs.Stored.{raise-fits, raise-is, raise-casts, lower-fits, lower-is}
 use Rattle.quads.specs.Quads.{quad, raised, numberOf, Raisable, quadSigns, QuarterBits}
 use Rattle.quads.specs.QuadLaws.{quad-size}
-use Rattle.quads.specs.Small.{digit-small, number-small}
+use Rattle.quads.specs.Small.{number-small}
 
 -- ---- the signs of four bits: 16843009 - 2 * (x + 65536 * y), where x and y are pairs of bits
 
@@ -149,34 +149,25 @@ module _ {z : ℤ} (h : Raisable z) where
   quad-held : stored z ≡ z
   quad-held = stored-eq z (omega (arith, h .small))
 
-  raised-small : raised z < 2 ^ 31
-  raised-small = omega (arith, h .small, natAbs-add z (pos 1077952576))
-
   pub raised-fits : SFits w32 (stored z +ℤ pos 1077952576)
-  raised-fits = rw quad-held (fits-32 _ raised-small)
+  raised-fits = raise-fits 1077952576 z (omega (arith, h .small)) (omega (arith, h .small))
 
   raised-is : raisedStored ≡ pos (raised z)
-  raised-is = toZ-ofZ raised-fits ∙ rw quad-held (lifted 1077952576 z (omega (arith, h .small)))
+  raised-is = raise-is 1077952576 z (omega (arith, h .small)) (omega (arith, h .small))
 
   pub raised-casts : T (nonNeg raisedStored) × Fits w32 (natAbs raisedStored)
-  raised-casts = rw raised-is (tt, record { fits = omega (arith, raised-small) })
+  raised-casts = raise-casts 1077952576 z (omega (arith, h .small)) (omega (arith, h .small))
 
 module _ (w : ℕ) {z : ℤ} (h : Raisable z) where
   abbrev digit : ℕ
   digit = natAbs (raisedStored h) / w % 256
 
-  digit-held : toZ w32 digit ≡ pos digit
-  digit-held = toZ-pos w32 (omega arith)
-
-  lowered-small : natAbs (pos digit -ℤ pos 64) < 2 ^ 31
-  lowered-small = omega (arith, digit-small digit (omega arith))
-
   pub lowered-fits : SFits w32 (toZ w32 digit -ℤ pos 64)
-  lowered-fits = rw digit-held (fits-32 _ lowered-small)
+  lowered-fits = lower-fits 64 digit (omega arith)
 
   pub number-is : stored (toZ w32 digit -ℤ pos 64) ≡ numberOf w z
   unfolding numberOf
-  number-is = toZ-ofZ lowered-fits ∙ rw (digit-held, raised-is h)
+  number-is = lower-is 64 digit (omega arith) ∙ rw (raised-is h)
 
 -- ---- sums and differences of two numbers of a quad, and their sizes
 

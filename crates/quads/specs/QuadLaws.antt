@@ -1,12 +1,12 @@
 -- Four words packed in one are transformed together, and the four numbers of a quad can be read again. Assumes nothing.
 use Prim.Native.Nat.{ℕ, _+_, _*_, _/_, _%_, _≤_}
-use mathlib.Core.Path.{_≡_, sym, ap, ap₂, _∙_}
+use mathlib.Core.Path.{_≡_, ap, ap₂, _∙_}
 use native.Mathlib.Omega.{arith}
-use lib.IntN.{ℤ, pos, natAbs, _+ℤ_, _-ℤ_, +ℤ-negℤ-cancel}
+use lib.IntN.{ℤ, pos, natAbs, _+ℤ_, _-ℤ_}
 use Rattle.area.specs.Numbers.{natAbs-add}
 use Rattle.hadamard.specs.Correlation.{correlation}
 use Rattle.peaks.specs.Peaks.{packedBy}
-use Rattle.peaks.specs.Packing.{correlation-packed, lifted, packed-size, packed-sum}
+use Rattle.peaks.specs.Packing.{correlation-packed, lifted, lifted-back, packed-size, packed-sum}
 use Rattle.quads.specs.Quads.{quad, raised, numberOf, Raisable}
 
 pub correlation-quad :
@@ -32,9 +32,6 @@ module _ (a b c d : ℤ) (ha : natAbs a ≤ 32) (hb : natAbs b ≤ 32) (hc : nat
   up-le : (x : ℤ) → natAbs x ≤ 32 → up x ≤ 96
   up-le x h = omega (arith, natAbs-add x (pos 64))
 
-  up-back : (x : ℤ) → natAbs x ≤ 32 → pos (up x) -ℤ pos 64 ≡ x
-  up-back x h = ap (λ (z : ℤ). z -ℤ pos 64) (sym (lifted 64 x (omega arith))) ∙ +ℤ-negℤ-cancel x (pos 64)
-
   -- the four digits
   digits : raised (quad a b c d) ≡ up a + up b * 256 + (up c + up d * 256) * 65536
   digits =
@@ -48,22 +45,22 @@ module _ (a b c d : ℤ) (ha : natAbs a ≤ 32) (hb : natAbs b ≤ 32) (hc : nat
   unfolding numberOf
   first-number =
       let digit : raised (quad a b c d) / 1 % 256 ≡ up a = omega (arith, digits, up-le a ha) in
-      ap (λ (x : ℕ). pos x -ℤ pos 64) digit ∙ up-back a ha
+      ap (λ (x : ℕ). pos x -ℤ pos 64) digit ∙ lifted-back 64 a (omega arith)
 
   pub second-number : numberOf 256 (quad a b c d) ≡ b
   unfolding numberOf
   second-number =
       let digit : raised (quad a b c d) / 256 % 256 ≡ up b = omega (arith, digits, up-le a ha, up-le b hb) in
-      ap (λ (x : ℕ). pos x -ℤ pos 64) digit ∙ up-back b hb
+      ap (λ (x : ℕ). pos x -ℤ pos 64) digit ∙ lifted-back 64 b (omega arith)
 
   pub third-number : numberOf 65536 (quad a b c d) ≡ c
   unfolding numberOf
   third-number =
       let digit : raised (quad a b c d) / 65536 % 256 ≡ up c = omega (arith, digits, up-le a ha, up-le b hb, up-le c hc) in
-      ap (λ (x : ℕ). pos x -ℤ pos 64) digit ∙ up-back c hc
+      ap (λ (x : ℕ). pos x -ℤ pos 64) digit ∙ lifted-back 64 c (omega arith)
 
   pub fourth-number : numberOf 16777216 (quad a b c d) ≡ d
   unfolding numberOf
   fourth-number =
       let digit : raised (quad a b c d) / 16777216 % 256 ≡ up d = omega (arith, digits, up-le a ha, up-le b hb, up-le c hc, up-le d hd) in
-      ap (λ (x : ℕ). pos x -ℤ pos 64) digit ∙ up-back d hd
+      ap (λ (x : ℕ). pos x -ℤ pos 64) digit ∙ lifted-back 64 d (omega arith)

@@ -10,7 +10,7 @@ use Rattle.area.specs.Numbers.{natAbs-add, natAbs-neg}
 use Rattle.quads.specs.Quads.{raised, numberOf, sumSize, differenceSize}
 
 -- a digit d, less 64, is from -64 to 191
-pub digit-small : (d : ℕ) → d < 256 → natAbs (pos d -ℤ pos 64) ≤ 191
+digit-small : (d : ℕ) → d < 256 → natAbs (pos d -ℤ pos 64) ≤ 191
 digit-small d h = go (ltb d 64) refl
   where
     go : (t : Bool) → ltb d 64 ≡ t → natAbs (cond t (negsuc (64 - suc d)) (pos (d - 64))) ≤ 191

@@ -1,6 +1,7 @@
 -- `peaks::first_of` meets its contract. Assumes nothing.
 use borrow.Author.Needs.{needs}
-use Rattle.peaks.proofs.Casts.{raised-fits, raised-casts, lowered-fits, first-small, first-is}
+use Rattle.peaks.specs.Stored.{lower-fits}
+use Rattle.peaks.proofs.Casts.{raised-fits, raised-casts, first-small, first-is}
 use Rattle.peaks.proofs.first_of.Statement.{statement}
 use Rattle.peaks.proofs.first_of.Tie as tie
 
@@ -14,7 +15,7 @@ cast-result-2 : tie.Need-cast-result-2
 cast-result-2 c = search needs
 
 sub-result : tie.Need-sub-result
-sub-result c = lowered-fits _ (first-small (c .args .z) (c .pre))
+sub-result c = lower-fits 1024 _ (first-small (c .args .z) (c .pre))
 
 returns : tie.Need-returns
 returns c = first-is (c .args .z) (c .pre)

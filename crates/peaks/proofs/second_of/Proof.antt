@@ -1,6 +1,7 @@
 -- `peaks::second_of` meets its contract. Assumes nothing.
 use native.Mathlib.Omega.{arith}
-use Rattle.peaks.proofs.Casts.{raised-fits, raised-casts, lowered-fits, second-small, second-is}
+use Rattle.peaks.specs.Stored.{lower-fits}
+use Rattle.peaks.proofs.Casts.{raised-fits, raised-casts, second-small, second-is}
 use Rattle.peaks.proofs.second_of.Statement.{statement}
 use Rattle.peaks.proofs.second_of.Tie as tie
 
@@ -14,7 +15,7 @@ cast-result-2 : tie.Need-cast-result-2
 cast-result-2 c = record { sfits = omega (arith, second-small (c .args .z) (c .pre)) }
 
 sub-result : tie.Need-sub-result
-sub-result c = lowered-fits _ (second-small (c .args .z) (c .pre))
+sub-result c = lower-fits 1024 _ (second-small (c .args .z) (c .pre))
 
 returns : tie.Need-returns
 returns c = second-is (c .args .z) (c .pre)
