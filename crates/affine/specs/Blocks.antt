@@ -16,7 +16,7 @@ use borrow.Rule.Slice.PartMut.{putMid}
 use Rattle.words.specs.Sum.{tabulate}
 use Rattle.words.specs.SumLaws.{length-tabulate, getD-tabulate, tabulate-ext, tabulate-getD}
 use Rattle.words.specs.TopBit.{ones-zero}
-use Rattle.words.specs.Written.{Written, written-none, written-more}
+use Rattle.words.specs.Written.{Written, written-four}
 use Rattle.area.specs.Area.{at, IsBit}
 use Rattle.area.specs.AreaLaws.{is-bit, bit-back, bits-xor}
 use Rattle.area.specs.Numbers.{stored}
@@ -75,15 +75,11 @@ module _ {i b : ℕ} {t : ℤ} {a : List ℤ} (asks : Repeats i b t a) where
       Written (pos 0) b 4 (repeated t i a) a
       (set (set (set (set a b (new i)) (b + 1) (new (i + 1))) (b + 2) (new (i + 2))) (b + 3) (new (i + 3)))
   four-repeated =
-      written-more
-      (written-more
-      (written-more
-      (written-more
-      (written-none (pos 0) b (repeated t i a) a)
-      b _ (omega arith) (omega (arith, asks .room)) (new-is 0 i (omega arith) (omega arith)))
-      (b + 1) _ (omega arith) (omega (arith, asks .room)) (new-is 1 (i + 1) (omega arith) refl))
-      (b + 2) _ (omega arith) (omega (arith, asks .room)) (new-is 2 (i + 2) (omega arith) refl))
-      (b + 3) _ (omega arith) (omega (arith, asks .room)) (new-is 3 (i + 3) (omega arith) refl)
+      written-four b refl (asks .room)
+      (new-is 0 i (omega arith) (omega arith))
+      (new-is 1 (i + 1) (omega arith) refl)
+      (new-is 2 (i + 2) (omega arith) refl)
+      (new-is 3 (i + 3) (omega arith) refl)
 
 -- the first b numbers are the codeword's
 pub record Affine (u : ℕ) (s : ℤ) (b : ℕ) (a : List ℤ) : Type 0 where

@@ -1,12 +1,12 @@
 -- Blocks of 4 entries of the area, read in pairs. Assumes nothing.
 use Prim.Native.Nat.{ℕ, _+_, _-_, _%_, _≤_, _<_}
-use mathlib.Core.Path.{_≡_, _∙_}
+use mathlib.Core.Path.{_≡_, refl, _∙_}
 use mathlib.Core.List.{List}
 use native.Mathlib.Omega.{arith}
 use lib.Bits.{bitXor}
 use lib.ListN.{length, set, take, drop}
 use lib.IntN.{ℤ, pos, natAbs}
-use Rattle.words.specs.Written.{Written, written-none, written-more}
+use Rattle.words.specs.Written.{Written, written-four}
 use Rattle.words.specs.Parts.{part-length, part-at}
 use Rattle.area.specs.Area.{at, IsBit}
 use Rattle.area.specs.AreaLaws.{is-bit, bit-back}
@@ -55,10 +55,8 @@ module _ {c p z l : ℕ} {xs : List ℤ} (t : TwoBlocks c p z l xs) where
   pub four-written : {a b d e : ℤ} → Sum 0 a → Sum 1 b → Sum 2 d → Sum 3 e
       → Written (pos 0) c 4 (pairSum p z l xs) xs (set (set (set (set xs c (stored a)) (c + 1) (stored b)) (c + 2) (stored d)) (c + 3) (stored e))
   four-written ea eb ed ee =
-      written-more
-      (written-more
-      (written-more
-      (written-more (written-none (pos 0) c (pairSum p z l xs) xs) c _ (omega arith) (omega arith) (written 0 (omega arith) ea))
-      (c + 1) _ (omega arith) (omega arith) (written 1 (omega arith) eb))
-      (c + 2) _ (omega arith) (omega arith) (written 2 (omega arith) ed))
-      (c + 3) _ (omega arith) (omega arith) (written 3 (omega arith) ee)
+      written-four c refl (omega arith)
+      (written 0 (omega arith) ea)
+      (written 1 (omega arith) eb)
+      (written 2 (omega arith) ed)
+      (written 3 (omega arith) ee)

@@ -11,7 +11,7 @@ use lib.Signed.{nonNeg}
 use mir.Syntax.{w32}
 use mir.Val.{Fits, SFits, toZ}
 use mir.Facts.{toZ-ofZ}
-use Rattle.words.specs.Written.{Written, written-none, written-more}
+use Rattle.words.specs.Written.{Written, written-four}
 use Rattle.area.specs.Area.{at, IsBit, zero-bit, one-bit}
 use Rattle.area.specs.AreaLaws.{bit-lt}
 use Rattle.area.specs.Numbers.{Half, stored, stored-eq, fits-32, natAbs-add, natAbs-neg, sum-fits, sum-stored}
@@ -117,14 +117,11 @@ module _ (i : ℕ) {q : ℕ} {xs : List ℤ} (pre : (i + 4 ≤ q) × QuarterBits
       → Written (pos 0) (4 * q + i) 4 (λ k. quadSigns q xs (i + k)) xs
       (set (set (set (set xs (4 * q + i) (stored w)) (4 * q + i + 1) (stored x)) (4 * q + i + 2) (stored y)) (4 * q + i + 3) (stored z))
   four-packed ew ex ey ez =
-      written-more
-      (written-more
-      (written-more
-      (written-more (written-none (pos 0) (4 * q + i) (λ k. quadSigns q xs (i + k)) xs)
-      _ _ (omega arith) (omega arith) (rw (add-zero i) (signs-held i ew)))
-      _ _ (omega arith) (omega arith) (signs-held (i + 1) ex))
-      _ _ (omega arith) (omega arith) (signs-held (i + 2) ey))
-      _ _ (omega arith) (omega arith) (signs-held (i + 3) ez)
+      written-four (4 * q + i) refl (omega arith)
+      (rw (add-zero i) (signs-held i ew))
+      (signs-held (i + 1) ex)
+      (signs-held (i + 2) ey)
+      (signs-held (i + 3) ez)
 
 -- an area of which only the part after the word was written
 module _ {q n : ℕ} {f : ℕ → ℤ} {xs ys : List ℤ} (h : QuarterBits q xs) (w : Written (pos 0) (4 * q) n f xs ys) where

@@ -5,7 +5,7 @@ use mathlib.Core.List.{List}
 use native.Mathlib.Omega.{arith}
 use lib.IntN.{ℤ, pos}
 use lib.ListN.{length, set}
-use Rattle.words.specs.Written.{Written, written-none, written-more}
+use Rattle.words.specs.Written.{Written, written-four}
 use Rattle.area.specs.Area.{at}
 use Rattle.area.specs.Numbers.{stored, stored-eq}
 use Rattle.peaks.specs.Stored.{number-read}
@@ -35,12 +35,9 @@ module _ {q : ℕ} {xs : List ℤ} (k : Quads q xs) where
         → {r s t u : ℤ} → SizeAt i r → SizeAt (i + 1) s → SizeAt (i + 2) t → SizeAt (i + 3) u
         → Written (pos 0) a 4 (λ p. pos (g (at xs (i + p)))) ys
         (set (set (set (set ys b (stored r)) (b + 1) (stored s)) (b + 2) (stored t)) (b + 3) (stored u))
-    four-written {ys} {a} b e fit er es et eu =
-        written-more
-        (written-more
-        (written-more
-        (written-more (written-none (pos 0) a (λ p. pos (g (at xs (i + p)))) ys)
-        b _ (omega arith) (omega arith) (size-stored 0 i (omega arith) (omega arith) er))
-        (b + 1) _ (omega arith) (omega arith) (size-stored 1 (i + 1) (omega arith) refl es))
-        (b + 2) _ (omega arith) (omega arith) (size-stored 2 (i + 2) (omega arith) refl et))
-        (b + 3) _ (omega arith) (omega arith) (size-stored 3 (i + 3) (omega arith) refl eu)
+    four-written b e fit er es et eu =
+        written-four b e fit
+        (size-stored 0 i (omega arith) (omega arith) er)
+        (size-stored 1 (i + 1) (omega arith) refl es)
+        (size-stored 2 (i + 2) (omega arith) refl et)
+        (size-stored 3 (i + 3) (omega arith) refl eu)

@@ -71,6 +71,20 @@ module _ {A : Type 0} {d : A} {a n : ℕ} {f : ℕ → A} {xs ys : List A} (w : 
   pub written-to : (k : ℕ) → n ≡ k → Written d a k f xs ys
   written-to k e = subst (λ (j : ℕ). Written d a j f xs ys) e w
 
+-- four entries in a row, from b on, which is a
+pub written-four :
+    {A : Type 0} {d : A} {a : ℕ} {f : ℕ → A} {xs : List A} (b : ℕ) {s t u v : A} → b ≡ a → a + 4 ≤ length xs
+    → s ≡ f 0 → t ≡ f 1 → u ≡ f 2 → v ≡ f 3
+    → Written d a 4 f xs (set (set (set (set xs b s) (b + 1) t) (b + 2) u) (b + 3) v)
+written-four {d = d} {a = a} {f = f} {xs = xs} b e room es et eu ev =
+    written-more
+    (written-more
+    (written-more
+    (written-more (written-none d a f xs) b _ (omega arith) (omega arith) es)
+    (b + 1) _ (omega arith) (omega arith) et)
+    (b + 2) _ (omega arith) (omega arith) eu)
+    (b + 3) _ (omega arith) (omega arith) ev
+
 -- the whole list was written
 pub written-all : {A : Type 0} {d : A} {n : ℕ} {f : ℕ → A} {xs ys : List A} → Written d 0 n f xs ys → length xs ≡ n → ys ≡ tabulate n f
 written-all {d = d} {n = n} {f = f} {ys = ys} w e =
