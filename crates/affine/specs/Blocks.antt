@@ -1,50 +1,26 @@
 -- The first order codeword by blocks: a block is the first one with a bit added. Assumes nothing.
-use Prim.Native.Nat.{ℕ, _+_, _-_, _*_, _/_, _%_, _^_, _≤_, _<_}
-use native.Mathlib.Nat.{add-zero, zero-add, zero-mul, mod-lt, mod-add-mod, add-mod-mod, div-add-mod'}
+use Prim.Native.Nat.{ℕ, _+_, _-_, _%_, _^_, _≤_, _<_}
+use native.Mathlib.Nat.{mod-add-mod, add-mod-mod}
 use native.Mathlib.Decide.{decLt}
 use native.Mathlib.Omega.{arith}
 use mathlib.Core.Path.{_≡_, refl, sym, ap, subst, _∙_}
 use mathlib.Core.List.{List}
 use lib.ListN.{length, set}
 use lib.IntN.{ℤ, pos, natAbs}
-use lib.Bits.{bitAnd, bitXor, and-block, and-lt, and-zero-r}
-use lib.Count.{ones, ones-cat}
-use lib.Pow.{pow-pos}
+use lib.Bits.{bitAnd, bitXor}
+use lib.Count.{ones}
 use mir.Syntax.{w32}
 use mir.Val.{toZ, ofZ}
 use borrow.Rule.Slice.PartMut.{putMid}
 use Rattle.words.specs.Sum.{tabulate}
 use Rattle.words.specs.SumLaws.{length-tabulate, getD-tabulate, tabulate-ext, tabulate-getD}
-use Rattle.words.specs.TopBit.{ones-zero}
+use Rattle.words.specs.Ones.{ones-block}
 use Rattle.words.specs.Written.{Written, written-four}
 use Rattle.area.specs.Area.{at, IsBit}
 use Rattle.area.specs.AreaLaws.{is-bit, bit-back, bits-xor}
 use Rattle.area.specs.Numbers.{stored}
 use Rattle.affine.specs.Affine.{affineAt, repeated, Repeats}
 use Rattle.words.specs.Parts.{back-within}
-
--- ---- the ones in u AND p, by blocks of 2 ^ h places
-
-module _ (h u : ℕ) where
-  ones-split : (k i : ℕ) → i < 2 ^ h → ones (bitAnd u (k * 2 ^ h + i)) ≡ ones (bitAnd (u / 2 ^ h) k) + ones (bitAnd (u % 2 ^ h) i)
-  ones-split k i l =
-      ap (λ (x : ℕ). ones (bitAnd x (k * 2 ^ h + i))) (sym (div-add-mod' u (2 ^ h)))
-      ∙ ap ones (and-block h (u / 2 ^ h) k (u % 2 ^ h) i (mod-lt u (pow-pos h)) l)
-      ∙ ones-cat h (bitAnd (u / 2 ^ h) k) (bitAnd (u % 2 ^ h) i) (and-lt h (u % 2 ^ h) i (mod-lt u (pow-pos h)) l)
-
-  ones-start : (k : ℕ) → ones (bitAnd u (k * 2 ^ h)) ≡ ones (bitAnd (u / 2 ^ h) k)
-  ones-start k = rw (← add-zero (k * 2 ^ h), ones-split k 0 (pow-pos h), and-zero-r, ones-zero) (add-zero _)
-
-  ones-first : (i : ℕ) → i < 2 ^ h → ones (bitAnd u i) ≡ ones (bitAnd (u % 2 ^ h) i)
-  ones-first i l =
-      ap (λ (x : ℕ). ones (bitAnd u x)) (sym (ap (λ (x : ℕ). x + i) (zero-mul (2 ^ h)) ∙ zero-add i)) ∙ ones-split 0 i l
-      ∙ rw (and-zero-r, ones-zero) (zero-add _)
-
-  -- a block begins at b
-  ones-block : (b i : ℕ) → b % 2 ^ h ≡ 0 → i < 2 ^ h → ones (bitAnd u (b + i)) ≡ ones (bitAnd u b) + ones (bitAnd u i)
-  ones-block b i e l =
-      let k : b / 2 ^ h * 2 ^ h ≡ b = omega (arith, div-add-mod' b (2 ^ h)) in
-      rw (← k) (ones-split (b / 2 ^ h) i l ∙ rw (ones-start, ones-first i l))
 
 -- ---- what the code writes
 

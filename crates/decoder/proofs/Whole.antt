@@ -23,13 +23,15 @@ use Rattle.refusals.specs.declared.Decoded.{Decoded}
 use Rattle.refusals.specs.declared.Decoded.the-variants.{Refused}
 use Rattle.profiles.specs.declared.Profile.{Profile}
 use Rattle.profiles.specs.Profiles.{profileOf}
-use Rattle.rule.specs.Reading.{Outcome, accepted, refused, reading}
+use Rattle.hadamard.specs.Correlation.{values as signs}
+use Rattle.rule.specs.Reading.{Outcome, accepted, refused, order1, reading}
 use Rattle.rule.specs.Decoding.{after, bufferChecks, limitChecks, limited, profileChecks, values, answerOf, outputOf, areaOf, zeros}
-use Rattle.rule.specs.DecodingLaws.{after-cases, buffers-passed}
+use Rattle.rule.specs.DecodingLaws.{after-cases, buffers-passed, limited-within}
 use Rattle.rule.specs.ProfileLaws.{profile-code, profile-passes}
 use Rattle.rule.specs.Calls.{Decodes, valuesOf}
-use Rattle.rule.specs.Counts.{reading-noise}
+use Rattle.rule.specs.Counts.{leaf-most, reading-leaf, reading-noise}
 use Rattle.leaves.specs.Leaves.{Holds, Read}
+use Rattle.direct.specs.Direct.{Readable, Gives}
 use Rattle.readings.specs.Readings.{Ready}
 use Rattle.decoder.specs.Runs.{Deliverable, delivered, Runs}
 use Rattle.readings.specs.Answers.{Late, by-answer, limited-late}
@@ -78,6 +80,9 @@ late-area : (o : Outcome) (xs : List ℤ) → Late o → areaOf o xs ≡ zeros x
 late-area (accepted d k l) xs h = refl
 late-area (refused e k l) xs h = rw (lt-leb e 8 (omega arith), ne-eqb e 14 (λ z. omega arith))
 
+result-late : (m r rounds leaves : ℕ) (word : List ℕ) → Late (limited leaves (reading r m rounds word))
+result-late m r rounds leaves word = limited-late leaves (reading r m rounds word) (reading-noise r m rounds word)
+
 module _ {m r rounds leaves : ℕ} {word out : List ℕ} {xs ys us : List ℤ} {d : Decoded} (done : WasRead m r rounds leaves word out xs ys us d) where
   open WasRead done using (loads, same, read)
   open Loaded loads using (runs, loaded)
@@ -95,7 +100,7 @@ module _ {m r rounds leaves : ℕ} {word out : List ℕ} {xs ys us : List ℤ} {
   holds = rw is-word at (read .word)
 
   late : Late o
-  late = limited-late leaves (reading r m rounds word) (reading-noise r m rounds word)
+  late = result-late m r rounds leaves word
 
   room-us : length out ≤ length us
   room-us = omega (arith, runs .output, same, room loads)
@@ -113,13 +118,47 @@ module _ {m r rounds leaves : ℕ} {word out : List ℕ} {xs ys us : List ℤ} {
       by-answer (λ (x : Decoded) (y : Outcome). Holds (2 ^ m) y us → delivered x out us ≡ outputOf y out)
       (λ w k l i j h. front-word room-us (sized h)) (λ why e k l i j h. refl) d o late said holds
 
-  pub read-decodes : {out′ : List ℕ} {zs : List ℤ} → out′ ≡ delivered d out us → zs ≡ replicate (length us) (pos 0) → Decodes o word out out′ xs zs d
-  read-decodes e z = record {
-    answer = said;
-    place = λ p k l q. absurd (late-not-8 o late k l (ap valuesOf (sym q) ∙ said));
-    output = e ∙ output-is;
-    lent = z ∙ ap (λ (n : ℕ). replicate n (pos 0)) (same ∙ loaded .long) ∙ sym (late-area o xs late);
+  pub read-gives : {out′ : List ℕ} → out′ ≡ delivered d out us → Gives o out out′ d
+  read-gives e = record { answer = said; output = e ∙ output-is }
+
+-- ---- a block of order 1 read from its bytes
+
+module _ {m r rounds leaves : ℕ} {word out : List ℕ} {xs : List ℤ} (runs : Runs m r rounds leaves word out xs) where
+  pub runs-readable : 4 < m → m < 8 → Readable m word out xs
+  runs-readable some few = record {
+    some = omega arith;
+    few = omega arith;
+    input = runs .input;
+    output = runs .output;
+    room = omega (arith, runs .room);
   }
+
+  -- its leaf is within every limit
+  one-leaf : r ≡ 1 → limited leaves (reading r m rounds word) ≡ order1 m (signs word)
+  unfolding reading
+  one-leaf e =
+      rw e (limited-within leaves (reading 1 m rounds word) (omega (arith, runs .one, leaf-most 1 (reading 1 m rounds word) (reading-leaf 1 m rounds word (omega arith)))))
+
+  pub direct-gives :
+      {out′ : List ℕ} {d : Decoded} → r ≡ 1 → Gives (order1 m (signs word)) out out′ d → Gives (limited leaves (reading r m rounds word)) out out′ d
+  direct-gives {out′} {d} e = subst (λ (o : Outcome). Gives o out out′ d) (sym (one-leaf e))
+
+-- ---- a call: the area cleared after the reading
+
+module _ (m r rounds leaves : ℕ) (word : List ℕ) where
+  abbrev result : Outcome
+  result = limited leaves (reading r m rounds word)
+
+  pub gives-decodes :
+      {out out′ : List ℕ} {xs zs : List ℤ} {d : Decoded} → Gives result out out′ d → zs ≡ zeros xs → Decodes result word out out′ xs zs d
+  gives-decodes {xs = xs} g z =
+      let late : Late result = result-late m r rounds leaves word in
+      record {
+        answer = g .answer;
+        place = λ p k l q. absurd (late-not-8 result late k l (ap valuesOf (sym q) ∙ g .answer));
+        output = g .output;
+        lent = z ∙ sym (late-area result xs late);
+      }
 
 -- ---- the checks
 
@@ -165,12 +204,14 @@ pub passed-runs : (m r rounds leaves : ℕ) (word out : List ℕ) (xs : List ℤ
     → firstRefusal (codeChecks m r ++ limitChecks rounds leaves ++ bufferChecks m word (length out) (length xs)) ≡ 0 → Runs m r rounds leaves word out xs
 passed-runs m r rounds leaves word out xs e =
     let code = code-passed m r (limitChecks rounds leaves ++ bufferChecks m word (length out) (length xs)) e in
-    let four = passed 3 _ _ (passed 3 _ _ (passed 2 _ _ (passed 2 _ _ (code .1) .1) .1) .1) in
+    let least = passed 3 _ _ (passed 2 _ _ (passed 2 _ _ (code .1) .1) .1) in
+    let four = passed 3 _ _ (least .1) in
     let six = passed 5 _ _ (passed 4 _ _ (four .1) .1) in
     record {
       some = code .0 .some;
       small = code .0 .most;
       order = code .0 .order;
+      one = leb-true 1 leaves (least .0);
       few = leb-true leaves 1000000 (four .0);
       input = buffers-passed m word (length out) (length xs) (four .1);
       output = eqb-true (length out) (2 ^ m) (six .0);

@@ -14,6 +14,7 @@ pub record Runs (m r rounds leaves : ℕ) (word out : List ℕ) (area : List ℤ
   pub some : 1 ≤ m
   pub small : m ≤ 10
   pub order : r ≤ m
+  pub one : 1 ≤ leaves
   pub few : leaves ≤ 1000000
   pub input : IsWord m word
   pub output : length out ≡ 2 ^ m

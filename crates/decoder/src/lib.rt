@@ -24,8 +24,8 @@ fn deliver(answer: Decoded, area: &[i32], out: &mut [u8])
     }
 }
 
-// A call that passed its checks.
-fn run(
+// A call that passed its checks, read in the area.
+fn run_in_area(
     m: usize,
     r: usize,
     rounds: usize,
@@ -43,6 +43,29 @@ fn run(
     deliver(answer, area, out);
     area::fill(area, 0);
     answer
+}
+
+// A call that passed its checks: a block of order 1 with 32 to 128 places goes from its bytes to the output's, any other through the area.
+fn run(
+    m: usize,
+    r: usize,
+    rounds: usize,
+    leaves: usize,
+    word: &[u8],
+    out: &mut [u8],
+    area: &mut [i32],
+) -> Decoded
+    requires { ⌜ Runs m r rounds leaves (now word) (now out) (now area) ⌝ }
+    ensures { λ d. ⌜ Decodes (limited leaves (Rattle.rule.specs.Reading.reading r m rounds (now (word .entry)))) (now (word .entry)) (now (out .entry)) (now (out .exit)) (now (area .entry)) (now (area .exit)) d ⌝ }
+{
+    if r == 1 {
+        if 4 < m {
+            if m < 8 {
+                return direct::read_block(m, word, out, area);
+            }
+        }
+    }
+    run_in_area(m, r, rounds, leaves, word, out, area)
 }
 
 // Decodes a block under the limits given.

@@ -1,6 +1,8 @@
 // Correlations by the fast Hadamard transform.
 ghost use mathlib.Core.Path.{_≡_};
-ghost use Prim.Native.Nat.{_+_, _^_};
+ghost use mathlib.Core.List.{List};
+ghost use Prim.Native.Nat.{ℕ, _+_, _^_};
+ghost use lib.IntN.{ℤ};
 ghost use lib.ListN.{length};
 ghost use Rattle.words.specs.Sum.{tabulate};
 ghost use Rattle.words.specs.Butterflies.{butterflies, halved, Entries, Blocked, BlocksDone};
@@ -8,6 +10,7 @@ ghost use Rattle.area.specs.Area.{at};
 ghost use Rattle.hadamard.specs.Correlation.{correlation};
 ghost use Rattle.hadamard.specs.Summable.{Summable};
 ghost use Rattle.hadamard.specs.Transform.{sums};
+ghost use Rattle.hadamard.specs.Begun.{Begun, EightsDone};
 
 // The sums of two halves of h numbers, then their differences, in place.
 fn butterfly(a: &mut [i32], h: usize)
@@ -52,6 +55,16 @@ fn four(a: &mut [i32])
     a[3] = d - e;
 }
 
+// The transform of 8 numbers: of each half, then one level.
+pub fn eight(a: &mut [i32])
+    requires { ⌜ Entries sums 8 3 (now a) ⌝ }
+    ensures { λ _. ⌜ now (a .exit) ≡ halved sums 3 (now (a .entry)) ⌝ }
+{
+    four(&mut a[0..4]);
+    four(&mut a[4..8]);
+    butterfly(a, 4);
+}
+
 // The transform of each block of 4 numbers.
 fn fours(a: &mut [i32])
     requires { ⌜ Blocked sums 4 2 (now a) ⌝ }
@@ -81,6 +94,18 @@ fn level(a: &mut [i32], h: usize)
     }
 }
 
+// The levels after the blocks of 8.
+pub fn levels(a: &mut [i32])
+    requires { ⌜ Begun (now a) ⌝ }
+    ensures { λ _. ⌜ ((m : ℕ) (x : List ℤ) → EightsDone m x (now (a .entry)) → now (a .exit) ≡ tabulate (2 ^ m) (correlation m (at x))) ⌝ }
+{
+    let mut h: usize = 8;
+    while h < a.len() {
+        level(a, h);
+        h = h + h;
+    }
+}
+
 // The correlation of every mask with the values in a, in place: blocks of 4 first, then level by level. The first level is a call of its
 // own with a literal, which the compiler unrolls.
 pub fn correlate(a: &mut [i32], m: usize)
@@ -99,9 +124,5 @@ pub fn correlate(a: &mut [i32], m: usize)
         return;
     }
     level(a, 4);
-    let mut h: usize = 8;
-    while h < a.len() {
-        level(a, h);
-        h = h + h;
-    }
+    levels(a);
 }

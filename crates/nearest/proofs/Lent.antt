@@ -19,7 +19,7 @@ use Rattle.hadamard.specs.Summable.{Summable}
 use Rattle.peaks.specs.declared.Peak.{Peak}
 use Rattle.peaks.specs.Peaks.{IsPeak}
 use Rattle.nearest.specs.Nearest.{Packable, PackedAfter, Searchable, placesOf, searched}
-use Rattle.nearest.proofs.PeakExt.{peak-ext}
+use Rattle.peaks.specs.SamePeak.{peak-ext}
 
 -- the area xs holds a word of n places, of parts of q, in its first half
 pub record Layout (m k n q : ℕ) (xs : List ℤ) : Type 0 where

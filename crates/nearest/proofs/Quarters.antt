@@ -9,35 +9,16 @@ use lib.Bits.{and-mask}
 use lib.IntN.{ℤ, pos, natAbs}
 use lib.Pow.{pow-pos, pow-mono}
 use Rattle.words.specs.Written.{Written, written-as}
+use Rattle.words.specs.Word.{bit}
 use Rattle.area.specs.Area.{at, Bits, wordOf}
 use Rattle.hadamard.specs.Correlation.{values, correlation}
 use Rattle.peaks.specs.Peaks.{packedBy, joined}
 use Rattle.peaks.specs.Packing.{correlation-size}
-use Rattle.quads.specs.Quads.{quad, quadSigns, numberOf, Raisable}
-use Rattle.quads.specs.QuadLaws.{correlation-quad, quad-size, quad-raisable, first-number, second-number, third-number, fourth-number}
+use Rattle.quads.specs.Quads.{quad, quadSigns}
+use Rattle.quads.specs.QuadLaws.{correlation-quad, signs-size, Numbers, numbers}
 use Rattle.quarters.specs.Quarters.{Quads, firsts, lasts}
 use Rattle.nearest.proofs.Values.{value-at, value-size, joined-whole}
 use Rattle.nearest.proofs.Lent.{Layout, Correlated, Packing}
-
--- z is a quad of four small numbers
-record Numbers (a b c d z : ℤ) : Type 0 where
-  raisable : Raisable z
-  first : numberOf 1 z ≡ a
-  second : numberOf 256 z ≡ b
-  third : numberOf 65536 z ≡ c
-  fourth : numberOf 16777216 z ≡ d
-
-numbers :
-    {a b c d z : ℤ} → z ≡ quad a b c d → natAbs a ≤ 32 → natAbs b ≤ 32 → natAbs c ≤ 32 → natAbs d ≤ 32 → Numbers a b c d z
-numbers {a} {b} {c} {d} e ha hb hc hd =
-    subst (Numbers a b c d) (sym e)
-    (record {
-      raisable = quad-raisable a b c d ha hb hc hd;
-      first = first-number a b c d ha hb hc hd;
-      second = second-number a b c d ha hb hc hd;
-      third = third-number a b c d ha hb hc hd;
-      fourth = fourth-number a b c d ha hb hc hd;
-    })
 
 module _ {m k n q : ℕ} {xs : List ℤ} (a : Layout m k n q xs) (em : suc (suc k) ≡ m) (least : 2 ≤ k) (most : k ≤ 5) where
   four : n ≡ 4 * q
@@ -79,16 +60,10 @@ module _ {m k n q : ℕ} {xs : List ℤ} (a : Layout m k n q xs) (em : suc (suc 
   unit : (p : ℕ) → natAbs (word p) ≤ 1
   unit = value-size n xs
 
-  signs-size : (p : ℕ) → natAbs (signs p) ≤ 16843009
-  signs-size p =
-      omega (
-        arith,
-        quad-size (word p) (after word p) (upper p) (after upper p),
-        unit p,
-        unit (2 ^ k + p),
-        unit (2 ^ suc k + p),
-        unit (2 ^ suc k + (2 ^ k + p)),
-      )
+  small : (p : ℕ) → natAbs (signs p) ≤ 16843009
+  small p =
+      let b : ℕ → ℕ = bit (wordOf n xs) in
+      signs-size (b p) (b (2 ^ k + p)) (b (2 ^ suc k + p)) (b (2 ^ suc k + (2 ^ k + p)))
 
   -- the correlations of a quarter are small
   size : (v : ℕ → ℤ) → ((p : ℕ) → natAbs (v p) ≤ 1) → (u : ℕ) → natAbs (correlation k v u) ≤ 32
@@ -133,7 +108,7 @@ module _ {m k n q : ℕ} {xs : List ℤ} (a : Layout m k n q xs) (em : suc (suc 
     packable =
         record { few = few; fours = fours; room = omega (arith, four); bits = subst (λ (r : ℕ). Bits r xs) four (a .bits) };
     signs = signs;
-    small = λ p. omega (arith, mul-le-mul-right (2 ^ k) (signs-size p), few);
+    small = λ p. omega (arith, mul-le-mul-right (2 ^ k) (small p), few);
     written = signs-written;
     searchable = quads;
     covers = omega (arith, four);

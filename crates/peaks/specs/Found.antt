@@ -20,12 +20,12 @@ use Rattle.hadamard.specs.Peak.{Alone, Shared, alone-count, alone-first, alone-
 use Rattle.peaks.specs.declared.Peak.{Peak}
 use Rattle.peaks.specs.Peaks.{entrySizes, firstOf, joined, keysBelow, secondOf, sizeOf, IsPeak, Packed, PeakAt, Sizes}
 use Rattle.peaks.specs.Keys.{keys-alone, keys-ext, keys-shared}
-use Rattle.peaks.specs.Pairs.{greater-sign, pair-alone, pair-even, pairs-greatest, pairs-share, sizes}
+use Rattle.peaks.specs.Pairs.{Layout, greater-sign, pair-alone, pair-even, joined-layout, pairs-greatest, pairs-share, sizes}
 
 -- ---- the peak of some values
 
 module _ (n : ℕ) (c : ℕ → ℤ) {p : Peak} where
-  one-peak : {u : ℕ} → Alone n (λ v. natAbs (c v)) u → p .alone ≡ true → p .mask ≡ u → p .constant ≡ pos (constantOf (c u))
+  pub one-peak : {u : ℕ} → Alone n (λ v. natAbs (c v)) u → p .alone ≡ true → p .mask ≡ u → p .constant ≡ pos (constantOf (c u))
       → p .whole ≡ eqb (greatestBelow n (λ v. natAbs (c v))) n → IsPeak n c p
   one-peak a ea em ec ew = record {
     alone = ea ∙ sym (eq-eqb _ 1 (alone-count a));
@@ -34,7 +34,7 @@ module _ (n : ℕ) (c : ℕ → ℤ) {p : Peak} where
     whole = λ e. ew;
   }
 
-  no-peak : Shared n (λ v. natAbs (c v)) → p .alone ≡ false → IsPeak n c p
+  pub no-peak : Shared n (λ v. natAbs (c v)) → p .alone ≡ false → IsPeak n c p
   no-peak s ea = record {
     alone = ea ∙ sym (ne-eqb _ 1 (shared-count s));
     mask = λ e. absurd (false≢true (sym ea ∙ e));
@@ -63,7 +63,7 @@ pub record Searched (h : ℕ) (x y : ℕ → ℤ) (g : ℤ) (key : ℕ) : Type 0
 
 module _ {h : ℕ} {x y : ℕ → ℤ} {g : ℤ} {key : ℕ} (t : Searched h x y g key) where
   pub searched-many : {p : Peak} → 131071 < key → p .alone ≡ false → IsPeak (h + h) (joined h x y) p
-  searched-many l ea = no-peak (h + h) (joined h x y) (pairs-share h x y (⊎-elim
+  searched-many l ea = no-peak (h + h) (joined h x y) (pairs-share (joined-layout h x y) (⊎-elim
       (λ a. absurd (omega (arith, t .keys, t .few, keys-alone a, a .below)))
       (λ s. s)
       (peak h (sizes x y) (t .some)))) ea
@@ -78,12 +78,16 @@ module _ {h : ℕ} {x y : ℕ → ℤ} {g : ℤ} {key : ℕ} (t : Searched h x y
     pub searched-place : key % 65536 < h
     searched-place = searched-one .below
 
-    module _ {p : Peak} (k : PeakAt h (key % 65536) g (x (key % 65536)) (y (key % 65536)) p) where
+    module _ {p : Peak}
+        (k : PeakAt (key % 65536) (h + key % 65536) (eqb (natAbs g) (h + h)) (x (key % 65536)) (y (key % 65536)) p) where
       abbrev j : ℕ
       j = key % 65536
 
+      abbrev places : Layout h (h + h) x y (joined h x y)
+      places = joined-layout h x y
+
       even : (natAbs (x j) ≡ 0) ⊎ (natAbs (y j) ≡ 0) → Shared (h + h) (λ v. natAbs (joined h x y v))
-      even = pair-even h x y j searched-place (λ i m. omega (arith, greatest-bound (sizes x y) h i m, alone-greatest searched-one))
+      even = pair-even places j searched-place (λ i m. omega (arith, greatest-bound (sizes x y) h i m, alone-greatest searched-one))
 
       pub searched-peak : IsPeak (h + h) (joined h x y) p
       searched-peak = elim (ℕ-discrete (natAbs (x j)) 0) [
@@ -91,9 +95,9 @@ module _ {h : ℕ} {x y : ℕ → ℤ} {g : ℤ} {key : ℕ} (t : Searched h x y
         | no nx ↦ elim (ℕ-discrete (natAbs (y j)) 0) [
           | yes e ↦ no-peak (h + h) (joined h x y) (even (inr e)) (k .second e)
           | no ny ↦
-              one-peak (h + h) (joined h x y) (pair-alone h x y j searched-one nx ny) (k .alone nx ny) (k .mask)
-              (k .constant ∙ ap pos (sym (greater-sign h x y j searched-place)))
-              (k .whole ∙ ap (λ (v : ℕ). eqb v (h + h)) (ap natAbs (t .greatest) ∙ sym (pairs-greatest h x y)))
+              one-peak (h + h) (joined h x y) (pair-alone places j searched-one nx ny) (k .alone nx ny) (k .mask)
+              (k .constant ∙ ap pos (sym (greater-sign places j searched-place)))
+              (k .whole ∙ ap (λ (v : ℕ). eqb v (h + h)) (ap natAbs (t .greatest) ∙ sym (pairs-greatest places (t .some))))
         ]
       ]
 

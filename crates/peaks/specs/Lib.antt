@@ -6,3 +6,4 @@ pub mod Keys
 pub mod Found
 pub mod Packing
 pub mod Stored
+pub mod SamePeak

@@ -1,13 +1,15 @@
 -- The greatest of the sums and differences of pairs, from the sizes of the pairs. Assumes nothing.
 use Prim.Native.Nat.{ℕ, zero, suc, _+_, _-_, _≤_, _<_}
-use mathlib.Core.Path.{_≡_, refl, sym, ap, _∙_, subst}
+use mathlib.Core.Path.{_≡_, sym, ap, _∙_, subst}
 use mathlib.Core.Bool.{Bool, true, false, cond}
-use mathlib.Core.Logic.{_≢_, _⊎_}
+use mathlib.Core.Logic.{_≢_, _⊎_, inl, inr}
 use native.Mathlib.Decide.{ℕ-discrete, decLt}
+use native.Mathlib.Nat.{not-suc-le-zero}
 use native.Mathlib.Omega.{arith}
+use lib.Dec.{ltb}
 use lib.IntN.{ℤ, natAbs, _+ℤ_, _-ℤ_}
 use borrow.Author.Tests.{lt-ltb, le-ltb}
-use Rattle.words.specs.Sum.{greatestBelow, total}
+use Rattle.words.specs.Sum.{greatestBelow}
 use Rattle.hadamard.specs.Correlation.{constantOf}
 use Rattle.hadamard.specs.Peak.{Alone, Shared, greatest-at, greatest-bound, greatest-met}
 use Rattle.peaks.specs.Peaks.{alike, joined, pairSize}
@@ -17,92 +19,104 @@ use Rattle.peaks.specs.OnePair.{greaterOf, greater-constant, greater-siz
 abbrev pub sizes : (ℕ → ℤ) → (ℕ → ℤ) → ℕ → ℕ
 sizes x y j = pairSize (x j) (y j)
 
-module _ (h : ℕ) (x y : ℕ → ℤ) where
-  abbrev pub joinedSizes : ℕ → ℕ
-  joinedSizes u = natAbs (joined h x y u)
+-- the n values c are the sums and the differences of the h pairs x j, y j: where those of a pair stand, and the pair of a place
+pub record Layout (h n : ℕ) (x y c : ℕ → ℤ) : Type 0 where
+  pub sum : ℕ → ℕ
+  pub difference : ℕ → ℕ
+  pub pair : ℕ → ℕ
+  pub sum-below : (j : ℕ) → j < h → sum j < n
+  pub difference-below : (j : ℕ) → j < h → difference j < n
+  pub sum-at : (j : ℕ) → j < h → c (sum j) ≡ x j +ℤ y j
+  pub difference-at : (j : ℕ) → j < h → c (difference j) ≡ x j -ℤ y j
+  pub sum-pair : (j : ℕ) → j < h → pair (sum j) ≡ j
+  pub difference-pair : (j : ℕ) → j < h → pair (difference j) ≡ j
+  pub apart : (j : ℕ) → j < h → sum j ≢ difference j
+  pub pair-below : (u : ℕ) → u < n → pair u < h
+  pub either : (u : ℕ) → u < n → (u ≡ sum (pair u)) ⊎ (u ≡ difference (pair u))
+
+module _ {h n : ℕ} {x y c : ℕ → ℤ} (k : Layout h n x y c) where
+  abbrev valueSizes : ℕ → ℕ
+  valueSizes u = natAbs (c u)
 
   abbrev pub greaterPlace : ℕ → ℕ
-  greaterPlace j = cond (alike (x j) (y j)) j (h + j)
+  greaterPlace j = cond (alike (x j) (y j)) (k .sum j) (k .difference j)
 
   abbrev lesserPlace : ℕ → ℕ
-  lesserPlace j = cond (alike (x j) (y j)) (h + j) j
+  lesserPlace j = cond (alike (x j) (y j)) (k .difference j) (k .sum j)
+
+  -- what holds of both places of a pair
+  both : (P : ℕ → Type 0) (j : ℕ) → P (k .sum j) → P (k .difference j) → P (greaterPlace j)
+  both P j s d = go (alike (x j) (y j))
+    where
+      go : (t : Bool) → P (cond t (k .sum j) (k .difference j))
+      go true = s
+      go false = d
 
   module _ (j : ℕ) (l : j < h) where
-    sum-at : joined h x y j ≡ x j +ℤ y j
-    sum-at = rw (lt-ltb j h l)
-
-    difference-at : joined h x y (h + j) ≡ x j -ℤ y j
-    difference-at =
-        let back : (h + j) - h ≡ j = omega arith in
-        rw (le-ltb (h + j) h (omega arith), back)
-
-    greater-at : joined h x y (greaterPlace j) ≡ greaterOf (x j) (y j)
+    greater-at : c (greaterPlace j) ≡ greaterOf (x j) (y j)
     greater-at = go (alike (x j) (y j))
       where
-        go : (t : Bool) → joined h x y (cond t j (h + j)) ≡ cond t (x j +ℤ y j) (x j -ℤ y j)
-        go true = sum-at
-        go false = difference-at
+        go : (t : Bool) → c (cond t (k .sum j) (k .difference j)) ≡ cond t (x j +ℤ y j) (x j -ℤ y j)
+        go true = k .sum-at j l
+        go false = k .difference-at j l
 
-    lesser-at : joined h x y (lesserPlace j) ≡ lesserOf (x j) (y j)
+    lesser-at : c (lesserPlace j) ≡ lesserOf (x j) (y j)
     lesser-at = go (alike (x j) (y j))
       where
-        go : (t : Bool) → joined h x y (cond t (h + j) j) ≡ cond t (x j -ℤ y j) (x j +ℤ y j)
-        go true = difference-at
-        go false = sum-at
+        go : (t : Bool) → c (cond t (k .difference j) (k .sum j)) ≡ cond t (x j -ℤ y j) (x j +ℤ y j)
+        go true = k .difference-at j l
+        go false = k .sum-at j l
 
-    pub greater-sign : constantOf (joined h x y (greaterPlace j)) ≡ constantOf (x j)
+    pub greater-sign : constantOf (c (greaterPlace j)) ≡ constantOf (x j)
     greater-sign = ap constantOf greater-at ∙ greater-constant (x j) (y j)
 
-    greater-is : joinedSizes (greaterPlace j) ≡ sizes x y j
+    pub greater-is : valueSizes (greaterPlace j) ≡ sizes x y j
     greater-is = ap natAbs greater-at ∙ greater-size (x j) (y j)
 
-    lesser-le : joinedSizes (lesserPlace j) ≤ sizes x y j
+    lesser-le : valueSizes (lesserPlace j) ≤ sizes x y j
     lesser-le = omega (arith, ap natAbs lesser-at, lesser-most (x j) (y j))
 
-    place-below : (t : Bool) → cond t j (h + j) < h + h
-    place-below true = omega arith
-    place-below false = omega arith
+    pub greater-below : greaterPlace j < n
+    greater-below = both (λ (u : ℕ). u < n) j (k .sum-below j l) (k .difference-below j l)
 
-  places-apart : (i j : ℕ) → i < h → j < h → (t s : Bool) → cond t i (h + i) ≡ cond s j (h + j) → i ≡ j
-  places-apart i j k l true true e = e
-  places-apart i j k l true false e = absurd (omega arith)
-  places-apart i j k l false true e = absurd (omega arith)
-  places-apart i j k l false false e = omega arith
+    greater-pair : k .pair (greaterPlace j) ≡ j
+    greater-pair = both (λ (u : ℕ). k .pair u ≡ j) j (k .sum-pair j l) (k .difference-pair j l)
 
   -- every place is one of a pair's
-  by-place : (P : ℕ → Type 0) → ((i : ℕ) → i < h → P (greaterPlace i)) → ((i : ℕ) → i < h → P (lesserPlace i)) → (v : ℕ) → v < h + h → P v
-  by-place P g d v l = elim (decLt v h) [
-    | yes k ↦ go v (alike (x v) (y v)) (g v k) (d v k) .0
-    | no k ↦
-        let i : ℕ = v - h in
-        let e : h + i ≡ v = omega arith in
-        subst P e (go i (alike (x i) (y i)) (g i (omega arith)) (d i (omega arith)) .1)
-  ]
+  by-place : (P : ℕ → Type 0) → ((i : ℕ) → i < h → P (greaterPlace i)) → ((i : ℕ) → i < h → P (lesserPlace i)) → (v : ℕ) → v < n → P v
+  by-place P g d v l = go (alike (x i) (y i)) (g i (k .pair-below v l)) (d i (k .pair-below v l)) (k .either v l)
     where
-      go : (i : ℕ) (t : Bool) → P (cond t i (h + i)) → P (cond t (h + i) i) → P i × P (h + i)
-      go i true a b = (a, b)
-      go i false a b = (b, a)
+      i : ℕ
+      i = k .pair v
+
+      go :
+          (t : Bool) → P (cond t (k .sum i) (k .difference i)) → P (cond t (k .difference i) (k .sum i))
+          → (v ≡ k .sum i) ⊎ (v ≡ k .difference i) → P v
+      go true a b (inl e) = subst P (sym e) a
+      go true a b (inr e) = subst P (sym e) b
+      go false a b (inl e) = subst P (sym e) b
+      go false a b (inr e) = subst P (sym e) a
 
   -- ---- the greatest
 
-  pairs-most : (b : ℕ) → ((j : ℕ) → j < h → sizes x y j ≤ b) → (v : ℕ) → v < h + h → joinedSizes v ≤ b
+  pairs-most : (b : ℕ) → ((j : ℕ) → j < h → sizes x y j ≤ b) → (v : ℕ) → v < n → valueSizes v ≤ b
   pairs-most b most =
-      by-place (λ (v : ℕ). joinedSizes v ≤ b)
+      by-place (λ (v : ℕ). valueSizes v ≤ b)
       (λ i l. omega (arith, greater-is i l, most i l))
       (λ i l. omega (arith, lesser-le i l, most i l))
 
   -- where the size of pair j is a bound
-  greatest-pair : (j : ℕ) → j < h → ((i : ℕ) → i < h → sizes x y i ≤ sizes x y j) → greatestBelow (h + h) joinedSizes ≡ sizes x y j
+  pub greatest-pair : (j : ℕ) → j < h → ((i : ℕ) → i < h → sizes x y i ≤ sizes x y j) → greatestBelow n valueSizes ≡ sizes x y j
   greatest-pair j l most =
-      greatest-at joinedSizes (h + h) (greaterPlace j) (place-below j l (alike (x j) (y j)))
-      (λ v k. omega (arith, greater-is j l, pairs-most (sizes x y j) most v k))
+      greatest-at valueSizes n (greaterPlace j) (greater-below j l)
+      (λ v m. omega (arith, greater-is j l, pairs-most (sizes x y j) most v m))
       ∙ greater-is j l
 
   -- one pair has it, and no number of the pair is 0
-  pub pair-alone : (j : ℕ) → Alone h (sizes x y) j → natAbs (x j) ≢ 0 → natAbs (y j) ≢ 0 → Alone (h + h) joinedSizes (greaterPlace j)
+  pub pair-alone : (j : ℕ) → Alone h (sizes x y) j → natAbs (x j) ≢ 0 → natAbs (y j) ≢ 0 → Alone n valueSizes (greaterPlace j)
   pair-alone j a nx ny = record {
-    below = place-below j l (alike (x j) (y j));
-    others = by-place (λ (v : ℕ). v ≢ u → joinedSizes v < joinedSizes u) at-greater at-lesser;
+    below = greater-below j l;
+    others = by-place (λ (v : ℕ). v ≢ u → valueSizes v < valueSizes u) at-greater at-lesser;
   }
     where
       u : ℕ
@@ -111,58 +125,85 @@ module _ (h : ℕ) (x y : ℕ → ℤ) where
       l : j < h
       l = a .below
 
-      at-greater : (i : ℕ) → i < h → greaterPlace i ≢ u → joinedSizes (greaterPlace i) < joinedSizes u
-      at-greater i k ne = omega (arith, greater-is i k, greater-is j l, a .others i k (λ e. ne (ap greaterPlace e)))
+      at-greater : (i : ℕ) → i < h → greaterPlace i ≢ u → valueSizes (greaterPlace i) < valueSizes u
+      at-greater i m ne = omega (arith, greater-is i m, greater-is j l, a .others i m (λ e. ne (ap greaterPlace e)))
 
-      at-lesser : (i : ℕ) → i < h → lesserPlace i ≢ u → joinedSizes (lesserPlace i) < joinedSizes u
-      at-lesser i k ne = elim (ℕ-discrete i j) [
+      at-lesser : (i : ℕ) → i < h → lesserPlace i ≢ u → valueSizes (lesserPlace i) < valueSizes u
+      at-lesser i m ne = elim (ℕ-discrete i j) [
         | yes e ↦ rw e (omega (arith, ap natAbs (lesser-at j l), lesser-less (x j) (y j) nx ny, greater-is j l))
-        | no d ↦ omega (arith, lesser-le i k, greater-is j l, a .others i k d)
+        | no d ↦ omega (arith, lesser-le i m, greater-is j l, a .others i m d)
       ]
 
   -- a pair that has it has a 0: both its places have it
   pub pair-even :
       (j : ℕ) → j < h → ((i : ℕ) → i < h → sizes x y i ≤ sizes x y j) → (natAbs (x j) ≡ 0) ⊎ (natAbs (y j) ≡ 0)
-      → Shared (h + h) joinedSizes
+      → Shared n valueSizes
   pair-even j l most z = record {
     first = greaterPlace j;
     second = lesserPlace j;
-    first-below = place-below j l (alike (x j) (y j));
+    first-below = greater-below j l;
     second-below = other-below (alike (x j) (y j));
     apart = apart-from (alike (x j) (y j));
     equal = omega (arith, greater-is j l, ap natAbs (lesser-at j l), lesser-equal (x j) (y j) z);
-    most = λ v k. omega (arith, greater-is j l, pairs-most (sizes x y j) most v k);
+    most = λ v m. omega (arith, greater-is j l, pairs-most (sizes x y j) most v m);
   }
     where
-      other-below : (t : Bool) → cond t (h + j) j < h + h
-      other-below true = omega arith
-      other-below false = omega arith
+      other-below : (t : Bool) → cond t (k .difference j) (k .sum j) < n
+      other-below true = k .difference-below j l
+      other-below false = k .sum-below j l
 
-      apart-from : (t : Bool) → cond t j (h + j) ≢ cond t (h + j) j
-      apart-from true e = omega arith
-      apart-from false e = omega arith
+      apart-from : (t : Bool) → cond t (k .sum j) (k .difference j) ≢ cond t (k .difference j) (k .sum j)
+      apart-from true e = k .apart j l e
+      apart-from false e = k .apart j l (sym e)
 
   -- two pairs have it
-  pub pairs-share : Shared h (sizes x y) → Shared (h + h) joinedSizes
+  pub pairs-share : Shared h (sizes x y) → Shared n valueSizes
   pairs-share s =
       let i : ℕ = s .first in
       let j : ℕ = s .second in
-      let k : i < h = s .first-below in
+      let m : i < h = s .first-below in
       let l : j < h = s .second-below in
       record {
         first = greaterPlace i;
         second = greaterPlace j;
-        first-below = place-below i k (alike (x i) (y i));
-        second-below = place-below j l (alike (x j) (y j));
-        apart = λ e. s .apart (places-apart i j k l (alike (x i) (y i)) (alike (x j) (y j)) e);
-        equal = greater-is i k ∙ s .equal ∙ sym (greater-is j l);
-        most = λ v m. omega (arith, greater-is i k, pairs-most (sizes x y i) (s .most) v m);
+        first-below = greater-below i m;
+        second-below = greater-below j l;
+        apart = λ e. s .apart (sym (greater-pair i m) ∙ ap (k .pair) e ∙ greater-pair j l);
+        equal = greater-is i m ∙ s .equal ∙ sym (greater-is j l);
+        most = λ v b. omega (arith, greater-is i m, pairs-most (sizes x y i) (s .most) v b);
       }
 
-pub pairs-greatest : (h : ℕ) (x y : ℕ → ℤ) → greatestBelow (h + h) (joinedSizes h x y) ≡ greatestBelow h (sizes x y)
-unfolding total
-pairs-greatest zero x y = refl
-pairs-greatest (suc n) x y =
+pub pairs-greatest :
+    {h n : ℕ} {x y c : ℕ → ℤ} → Layout h n x y c → 0 < h → greatestBelow n (λ u. natAbs (c u)) ≡ greatestBelow h (sizes x y)
+pairs-greatest {h = zero} k some = absurd (not-suc-le-zero some)
+pairs-greatest {h = suc n} {x = x} {y = y} k some =
     let f : ℕ → ℕ = sizes x y in
     let (j, l, e) = greatest-met f n in
-    greatest-pair (suc n) x y j l (λ i k. omega (arith, greatest-bound f (suc n) i k)) ∙ e
+    greatest-pair k j l (λ i m. omega (arith, greatest-bound f (suc n) i m)) ∙ e
+
+-- ---- the sums, then the differences
+
+abbrev pub joined-layout : (h : ℕ) (x y : ℕ → ℤ) → Layout h (h + h) x y (joined h x y)
+joined-layout h x y = record {
+  sum = λ j. j;
+  difference = λ j. h + j;
+  pair = λ u. cond (ltb u h) u (u - h);
+  sum-below = λ j l. omega arith;
+  difference-below = λ j l. omega arith;
+  sum-at = λ j l. rw (lt-ltb j h l);
+  difference-at = λ j l. rw (le-ltb (h + j) h (omega arith), back j);
+  sum-pair = λ j l. rw (lt-ltb j h l);
+  difference-pair = λ j l. rw (le-ltb (h + j) h (omega arith)) (back j);
+  apart = λ j l e. omega arith;
+  pair-below = λ u l. elim (decLt u h) [
+    | yes m ↦ rw (lt-ltb u h m) m
+    | no m ↦ rw (le-ltb u h (omega arith)) (omega arith)
+  ];
+  either = λ u l. elim (decLt u h) [
+    | yes m ↦ inl (rw (lt-ltb u h m))
+    | no m ↦ inr (rw (le-ltb u h (omega arith)) (omega arith))
+  ];
+}
+  where
+    back : (j : ℕ) → (h + j) - h ≡ j
+    back j = omega arith

@@ -82,11 +82,11 @@ pub record IsPeak (n : ℕ) (c : ℕ → ℤ) (p : Peak) : Type 0 where
 abbrev pub alike : ℤ → ℤ → Bool
 alike x y = eqb (constantOf x) (constantOf y)
 
--- the peak that the pair j, which is x, y, of size g gives
-pub record PeakAt (h j : ℕ) (g x y : ℤ) (p : Peak) : Type 0 where
+-- the peak that the pair x, y gives, by the masks of its sum and its difference
+pub record PeakAt (sum difference : ℕ) (full : Bool) (x y : ℤ) (p : Peak) : Type 0 where
   pub alone : natAbs x ≢ 0 → natAbs y ≢ 0 → p .alone ≡ true
   pub first : natAbs x ≡ 0 → p .alone ≡ false
   pub second : natAbs y ≡ 0 → p .alone ≡ false
-  pub mask : p .mask ≡ cond (alike x y) j (h + j)
+  pub mask : p .mask ≡ cond (alike x y) sum difference
   pub constant : p .constant ≡ pos (constantOf x)
-  pub whole : p .whole ≡ eqb (natAbs g) (h + h)
+  pub whole : p .whole ≡ full

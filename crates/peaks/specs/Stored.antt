@@ -1,13 +1,15 @@
 -- Numbers in 32 signed bits, as a search reads them. Assumes nothing.
 use Prim.Native.Nat.{ℕ, _+_, _^_, _≤_, _<_}
 use mathlib.Core.Path.{_≡_, sym, ap, _∙_}
+use native.Mathlib.Decide.{ℕ-discrete}
 use native.Mathlib.Omega.{arith}
-use lib.Dec.{T}
-use lib.IntN.{ℤ, pos, negℤ, natAbs, _+ℤ_, _-ℤ_}
+use lib.Dec.{T, eqb}
+use lib.IntN.{ℤ, pos, negsuc, negℤ, natAbs, _+ℤ_, _-ℤ_}
 use lib.Signed.{mag, nonNeg}
-use mir.Syntax.{w32}
-use mir.Val.{Fits, SFits, toZ}
+use mir.Syntax.{w32, w64}
+use mir.Val.{Fits, SFits, toZ, ofZ}
 use mir.Facts.{toZ-ofZ, toZ-pos}
+use borrow.Author.Tests.{eq-eqb, ne-eqb}
 use Rattle.area.specs.Numbers.{stored, stored-eq, fits-32, natAbs-add, natAbs-neg}
 use Rattle.peaks.specs.declared.Peak.{Peak}
 use Rattle.peaks.specs.Peaks.{PeakAt}
@@ -20,6 +22,21 @@ number-read {x} e l = stored-eq x (rw e (omega arith)) ∙ e
 -- a number that fits
 pub as-it-is : {z : ℤ} → mag z < 2 ^ 31 → stored z ≡ z
 as-it-is l = toZ-ofZ (record { sfits = l })
+
+-- whether it is 0, as a test of the word says
+pub word-zero : (x : ℤ) → natAbs x ≡ 0 → ofZ w32 x ≡ 0
+word-zero (pos n) e = e
+word-zero (negsuc n) e = absurd (omega arith)
+
+module _ {x : ℤ} (f : SFits w32 x) where
+  pub zero-word : ofZ w32 x ≡ 0 → natAbs x ≡ 0
+  zero-word e = ap natAbs (sym (toZ-ofZ f) ∙ ap (toZ w32) e)
+
+  pub zero-read : eqb (ofZ w32 x) 0 ≡ eqb (natAbs x) 0
+  zero-read = elim (ℕ-discrete (natAbs x) 0) [
+    | yes e ↦ eq-eqb (ofZ w32 x) 0 (word-zero x e) ∙ sym (eq-eqb (natAbs x) 0 e)
+    | no k ↦ ne-eqb (ofZ w32 x) 0 (λ e. k (zero-word e)) ∙ sym (ne-eqb (natAbs x) 0 k)
+  ]
 
 -- a number raised by k, so that it is not negative
 module _ (k : ℕ) (z : ℤ) (low : natAbs z ≤ k) (room : natAbs z + k < 2 ^ 31) where
@@ -57,9 +74,10 @@ module _ {g : ℤ} {n : ℕ} (e : g ≡ pos n) (l : mag g < 2 ^ 31) where
   pub size-whole : stored g ≡ pos (natAbs (stored g))
   size-whole = size-read ∙ ap (λ (z : ℤ). pos (natAbs z)) (sym size-read)
 
-  pub size-small : natAbs (stored g) < 2 ^ 31
-  size-small = omega (arith, ap natAbs size-read, ap mag e)
+  pub size-casts : T (nonNeg (stored g)) × Fits w64 (natAbs (stored g))
+  size-casts = rw size-read (tt, record { fits = omega (arith, ap mag e) })
 
 pub peak-as :
-    {h j : ℕ} {g g′ x x′ y y′ : ℤ} {p : Peak} → g ≡ g′ → x ≡ x′ → y ≡ y′ → PeakAt h j g x y p → PeakAt h j g′ x′ y′ p
-peak-as eg ex ey k = rw (← eg, ← ex, ← ey) k
+    {a b : ℕ} (n : ℕ) (g : ℤ) {x x′ y y′ : ℤ} {p : Peak} → mag g < 2 ^ 31 → x ≡ x′ → y ≡ y′
+    → PeakAt a b (eqb (natAbs (stored g)) n) x y p → PeakAt a b (eqb (natAbs g) n) x′ y′ p
+peak-as n g l ex ey k = rw (← as-it-is {z = g} l, ← ex, ← ey) k

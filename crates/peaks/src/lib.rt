@@ -104,17 +104,15 @@ pub fn keys(sizes: &[i32], g: i32) -> u32
     sum
 }
 
-// The peak of size g at pair j, which is x, y: the mask of the sum where their signs are alike, and of the difference where they are not;
-// where one of them is 0 both have it.
-pub fn peak_at(h: usize, j: usize, g: i32, x: i32, y: i32) -> Peak
-    requires { ⌜ (h ≤ 512) × (j < h) × (g ≡ pos (natAbs g)) × (natAbs g < 2 ^ 31) ⌝ }
-    ensures { λ p. ⌜ PeakAt h j g x y p ⌝ }
+// The peak at the pair x, y: the mask of the sum where their signs are alike, and of the difference where they are not; where one of them
+// is 0 both have it.
+pub fn peak_at(sum: usize, difference: usize, whole: bool, x: i32, y: i32) -> Peak
+    ensures { λ p. ⌜ PeakAt sum difference whole x y p ⌝ }
 {
     let constant = if x < 0 { 1 } else { 0 };
     let other = if y < 0 { 1 } else { 0 };
-    let mask = if constant == other { j } else { h + j };
+    let mask = if constant == other { sum } else { difference };
     let alone = if x == 0 { false } else { y != 0 };
-    let whole = g as usize == h + h;
     Peak {
         mask,
         alone,
@@ -142,5 +140,5 @@ pub fn search(h: usize, part: &mut [i32]) -> Peak
     }
     let j = (key % 65536) as usize;
     let z = part[j];
-    peak_at(h, j, g, first_of(z), second_of(z))
+    peak_at(j, h + j, g as usize == e, first_of(z), second_of(z))
 }

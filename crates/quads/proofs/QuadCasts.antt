@@ -16,11 +16,10 @@ use Rattle.area.specs.Area.{at, IsBit, zero-bit, one-bit}
 use Rattle.area.specs.AreaLaws.{bit-lt}
 use Rattle.area.specs.Numbers.{Half, stored, stored-eq, fits-32, natAbs-add, natAbs-neg, sum-fits, sum-stored}
 use Rattle.hadamard.specs.Correlation.{sign}
-use Rattle.hadamard.specs.CorrelationLaws.{sign-size}
 use Rattle.peaks.specs.Peaks.{pairSize}
 use Rattle.peaks.specs.Stored.{raise-fits, raise-is, raise-casts, lower-fits, lower-is}
 use Rattle.quads.specs.Quads.{quad, raised, numberOf, Raisable, quadSigns, QuarterBits}
-use Rattle.quads.specs.QuadLaws.{quad-size}
+use Rattle.quads.specs.QuadLaws.{signs-size}
 use Rattle.quads.specs.Small.{number-small}
 
 -- ---- the signs of four bits: 16843009 - 2 * (x + 65536 * y), where x and y are pairs of bits
@@ -99,14 +98,11 @@ signs-are one-bit one-bit one-bit one-bit = refl
 
 -- ---- quads of signs in the area
 
-signs-small : (a b c d : ℕ) → natAbs (quad (sign a) (sign b) (sign c) (sign d)) < 2 ^ 31
-signs-small a b c d = omega (arith, quad-size (sign a) (sign b) (sign c) (sign d), sign-size a, sign-size b, sign-size c, sign-size d)
-
 module _ (i : ℕ) {q : ℕ} {xs : List ℤ} (pre : (i + 4 ≤ q) × QuarterBits q xs) where
   signs-held : {z : ℤ} (j : ℕ) → z ≡ quadSigns q xs j → stored z ≡ quadSigns q xs j
   signs-held {z} j e =
       let b : ℕ → ℕ = λ p. natAbs (at xs p) in
-      stored-eq z (rw e (signs-small (b j) (b (q + j)) (b (2 * q + j)) (b (3 * q + j)))) ∙ e
+      stored-eq z (rw e (omega (arith, signs-size (b j) (b (q + j)) (b (2 * q + j)) (b (3 * q + j))))) ∙ e
 
   abbrev Quad : ℕ → ℤ → Type 0
   Quad j z = z ≡ quadSigns q xs j

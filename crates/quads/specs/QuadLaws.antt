@@ -1,10 +1,11 @@
 -- Four words packed in one are transformed together, and the four numbers of a quad can be read again. Assumes nothing.
 use Prim.Native.Nat.{ℕ, _+_, _*_, _/_, _%_, _≤_}
-use mathlib.Core.Path.{_≡_, ap, ap₂, _∙_}
+use mathlib.Core.Path.{_≡_, sym, ap, ap₂, subst, _∙_}
 use native.Mathlib.Omega.{arith}
 use lib.IntN.{ℤ, pos, natAbs, _+ℤ_, _-ℤ_}
 use Rattle.area.specs.Numbers.{natAbs-add}
-use Rattle.hadamard.specs.Correlation.{correlation}
+use Rattle.hadamard.specs.Correlation.{correlation, sign}
+use Rattle.hadamard.specs.CorrelationLaws.{sign-size}
 use Rattle.peaks.specs.Peaks.{packedBy}
 use Rattle.peaks.specs.Packing.{correlation-packed, lifted, lifted-back, packed-size, packed-sum}
 use Rattle.quads.specs.Quads.{quad, raised, numberOf, Raisable}
@@ -20,6 +21,10 @@ correlation-quad m a b c d u =
 pub quad-size : (a b c d : ℤ) → natAbs (quad a b c d) ≤ natAbs a + natAbs b * 256 + (natAbs c + natAbs d * 256) * 65536
 quad-size a b c d =
     omega (arith, packed-size 65536 (packedBy 256 a b) (packedBy 256 c d), packed-size 256 a b, packed-size 256 c d)
+
+-- of four signs
+pub signs-size : (a b c d : ℕ) → natAbs (quad (sign a) (sign b) (sign c) (sign d)) ≤ 16843009
+signs-size a b c d = omega (arith, quad-size (sign a) (sign b) (sign c) (sign d), sign-size a, sign-size b, sign-size c, sign-size d)
 
 module _ (a b c d : ℤ) (ha : natAbs a ≤ 32) (hb : natAbs b ≤ 32) (hc : natAbs c ≤ 32) (hd : natAbs d ≤ 32) where
   pub quad-raisable : Raisable (quad a b c d)
@@ -64,3 +69,23 @@ module _ (a b c d : ℤ) (ha : natAbs a ≤ 32) (hb : natAbs b ≤ 32) (hc : nat
   fourth-number =
       let digit : raised (quad a b c d) / 16777216 % 256 ≡ up d = omega (arith, digits, up-le a ha, up-le b hb, up-le c hc, up-le d hd) in
       ap (λ (x : ℕ). pos x -ℤ pos 64) digit ∙ lifted-back 64 d (omega arith)
+
+-- z is a quad of four small numbers
+pub record Numbers (a b c d z : ℤ) : Type 0 where
+  pub raisable : Raisable z
+  pub first : numberOf 1 z ≡ a
+  pub second : numberOf 256 z ≡ b
+  pub third : numberOf 65536 z ≡ c
+  pub fourth : numberOf 16777216 z ≡ d
+
+pub numbers :
+    {a b c d z : ℤ} → z ≡ quad a b c d → natAbs a ≤ 32 → natAbs b ≤ 32 → natAbs c ≤ 32 → natAbs d ≤ 32 → Numbers a b c d z
+numbers {a} {b} {c} {d} e ha hb hc hd =
+    subst (Numbers a b c d) (sym e)
+    (record {
+      raisable = quad-raisable a b c d ha hb hc hd;
+      first = first-number a b c d ha hb hc hd;
+      second = second-number a b c d ha hb hc hd;
+      third = third-number a b c d ha hb hc hd;
+      fourth = fourth-number a b c d ha hb hc hd;
+    })

@@ -129,7 +129,7 @@ module _ (m : ℕ) (lower : List ℕ → Outcome) (r b : ℕ) (bound : (v : List
       let later = rounds-most left (suc k) (l + roundLeaves m lower w) (addWords w (flips m lower w)) in
       round-cases m lower r left k l w (λ o. leavesOf o ≤ l + suc left * ((2 ^ suc m - 1) * b)) (λ e. omega arith) (omega arith) (omega arith)
 
-leaf-most : (r : ℕ) (o : Outcome) → Leaf r o → leavesOf o ≤ r
+pub leaf-most : (r : ℕ) (o : Outcome) → Leaf r o → leavesOf o ≤ r
 leaf-most r (accepted d k l) h = omega arith
 leaf-most r (refused e k l) h = omega arith
 

@@ -4,6 +4,7 @@ pub mod Word
 pub mod Written
 pub mod TopBit
 pub mod Xor
+pub mod Ones
 pub mod SumLaws
 pub mod WordLaws
 pub mod Parts

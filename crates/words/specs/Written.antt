@@ -1,11 +1,8 @@
 -- A list of which a run of entries was written: what every loop that fills a slice promises. Assumes nothing.
-use Prim.Native.Nat.{ℕ, zero, suc, _+_, _-_, _≤_, _<_}
-use native.Mathlib.Nat.{add-zero, le-of-suc-le-suc, eq-or-lt-of-le}
-use native.Mathlib.Numerals.{add-one}
+use Prim.Native.Nat.{ℕ, _+_, _-_, _≤_, _<_}
 use native.Mathlib.Decide.{ℕ-discrete, decLt}
 use native.Mathlib.Omega.{arith}
 use mathlib.Core.Path.{_≡_, refl, sym, ap, _∙_, subst}
-use mathlib.Core.Logic.{⊎-elim}
 use mathlib.Core.List.{List}
 use lib.ListN.{length, getD, set, length-set}
 use lib.Seq.{getD-set-same, getD-set-other, ext-getD}
@@ -84,6 +81,22 @@ written-four {d = d} {a = a} {f = f} {xs = xs} b e room es et eu ev =
     (b + 1) _ (omega arith) (omega arith) et)
     (b + 2) _ (omega arith) (omega arith) eu)
     (b + 3) _ (omega arith) (omega arith) ev
+
+-- eight entries in a row
+pub written-eight :
+    {A : Type 0} {d : A} {a : ℕ} {f : ℕ → A} {xs : List A} {r s t u v x y z : A} → a + 8 ≤ length xs
+    → r ≡ f 0 → s ≡ f 1 → t ≡ f 2 → u ≡ f 3 → v ≡ f 4 → x ≡ f 5 → y ≡ f 6 → z ≡ f 7
+    → Written d a 8 f xs
+    (set (set (set (set (set (set (set (set xs a r) (a + 1) s) (a + 2) t) (a + 3) u) (a + 4) v) (a + 5) x) (a + 6) y) (a + 7) z)
+written-eight {a = a} room er es et eu ev ex ey ez =
+    written-more
+    (written-more
+    (written-more
+    (written-more (written-four a refl (omega arith) er es et eu)
+    (a + 4) _ refl (omega arith) ev)
+    (a + 5) _ refl (omega arith) ex)
+    (a + 6) _ refl (omega arith) ey)
+    (a + 7) _ refl (omega arith) ez
 
 -- the whole list was written
 pub written-all : {A : Type 0} {d : A} {n : ℕ} {f : ℕ → A} {xs ys : List A} → Written d 0 n f xs ys → length xs ≡ n → ys ≡ tabulate n f

@@ -19,12 +19,13 @@ pub fn directed(c: &mut Comparison) -> Result<(), Disagreement> {
 pub type Part = (&'static str, fn(&mut Comparison) -> Result<(), Disagreement>);
 
 /// The whole comparison by parts.
-pub const WHOLE: [Part; 8] = [
+pub const WHOLE: [Part; 9] = [
     ("known values", values::all),
     ("every word to m 4", every_small_word),
     ("encoder, message reader, codeword test", every_code_call),
     ("bad arguments", every_bad_call),
     ("blocks of m 4 to 6", small_blocks),
+    ("order 1 of m 5 to 7", order_one_blocks),
     ("blocks of m 7 to 10", large_blocks),
     ("profiles", profile_blocks),
     ("pairs that differ by a codeword", every_pair),
@@ -63,6 +64,11 @@ fn samples(c: &mut Comparison, seed: u64, list: &[Sample]) -> Result<(), Disagre
 fn small_blocks(c: &mut Comparison) -> Result<(), Disagreement> {
     samples(c, 300, &[(4, 0..=4, 1_000), (5, 0..=2, 400), (5, 3..=5, 100)])?;
     samples(c, 500, &[(6, 0..=2, 200), (6, 3..=3, 60), (6, 4..=4, 8), (6, 5..=6, 3)])
+}
+
+/// The blocks that the library reads from their bytes.
+fn order_one_blocks(c: &mut Comparison) -> Result<(), Disagreement> {
+    samples(c, 650, &[(5, 1..=1, 4_000), (6, 1..=1, 4_000), (7, 1..=1, 4_000)])
 }
 
 fn large_blocks(c: &mut Comparison) -> Result<(), Disagreement> {

@@ -1,30 +1,13 @@
--- `decoder::run` meets its contract. Assumes nothing.
+-- `decoder::run` meets its contract: a block of order 1 goes from bytes to bytes, any other through the area. Assumes nothing.
 use borrow.Author.Needs.{needs}
-use Rattle.decoder.proofs.Whole.{loaded-ready, read-delivers, read-decodes}
+use Rattle.decoder.proofs.Whole.{runs-readable, direct-gives, gives-decodes}
 use Rattle.decoder.proofs.run.Statement.{statement}
 use Rattle.decoder.proofs.run.Tie as tie
 
-load-requires : tie.Need-load-requires
-load-requires c κs = search needs
-
-reading-requires : tie.Need-reading-requires
-reading-requires c κs =
-    let s = c .before .before .before .before .before .before in
-    loaded-ready (record { runs = s .pre; loaded = c .before .before .load .ensures })
-
-deliver-requires : tie.Need-deliver-requires
-deliver-requires c κs =
-    let r = c .before .before .before in
-    let l = r .before .before .before in
-    read-delivers
-    (record {
-      loads = record { runs = l .before .before .before .before .pre; loaded = l .load .ensures };
-      same = r .reading .kept .1 .1 .1 .1 .0;
-      read = r .reading .ensures .0;
-    })
-
-fill-requires : tie.Need-fill-requires
-fill-requires c κs = search needs
+read-block-requires : tie.Need-read-block-requires
+read-block-requires c κs =
+    let t = c .before .before in
+    runs-readable (t .before .before .before .before .before .pre) (t .before .if2 .taken) (t .if3 .taken)
 
 same-length : tie.Need-same-length
 same-length c = search needs
@@ -34,25 +17,31 @@ same-length-2 c = search needs
 
 returns : tie.Need-returns
 returns c =
-    let v = c .before .before .before .before .before in
-    let r = v .before .before .before .before in
-    let l = r .before .before .before in
-    read-decodes
-    (record {
-      loads = record { runs = l .before .before .before .before .pre; loaded = l .load .ensures };
-      same = r .reading .kept .1 .1 .1 .1 .0;
-      read = r .reading .ensures .0;
-    })
-    (v .deliver .ensures) (c .before .fill .ensures)
+    let d = c .before .before .before in
+    let t = d .before .before .before .before .before in
+    gives-decodes _ _ _ _ _ (direct-gives (t .before .before .before .pre) (t .if1 .taken) (d .read-block .ensures .0)) (d .read-block .ensures .1)
+
+run-in-area-requires : tie.Need-run-in-area-requires
+run-in-area-requires c κs = search needs
+
+same-length-3 : tie.Need-same-length-3
+same-length-3 c = search needs
+
+same-length-4 : tie.Need-same-length-4
+same-length-4 c = search needs
+
+returns-2 : tie.Need-returns-2
+returns-2 c = search needs
 
 pub run-spec : {M : Type 1} → statement M
 run-spec =
     tie.close
     (tie.spec
-    load-requires
-    reading-requires
-    deliver-requires
-    fill-requires
+    read-block-requires
     same-length
     same-length-2
-    returns)
+    returns
+    run-in-area-requires
+    same-length-3
+    same-length-4
+    returns-2)

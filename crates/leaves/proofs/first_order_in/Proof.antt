@@ -7,7 +7,8 @@ use borrow.Author.Tests.{not-true, not-false}
 use Rattle.area.specs.AreaLaws.{bit-back}
 use Rattle.peaks.specs.Found.{peak-below}
 use Rattle.leaves.specs.LeafLaws.{changed-tells}
-use Rattle.leaves.proofs.OrderOne.{Peaked, constant-bit, tie-read, whole-read, written-read}
+use Rattle.leaves.specs.OrderOne.{constant-bit}
+use Rattle.leaves.proofs.OrderOne.{Peaked, peak-of, tie-read, whole-read, written-read}
 use Rattle.leaves.proofs.first_order_in.Statement.{statement}
 use Rattle.leaves.proofs.first_order_in.Tie as tie
 
@@ -54,7 +55,7 @@ write-affine-requires c κs =
     let e = c .before .before .before in
     let f = e .before .before .before in
     let alone = not-false _ (e .if1 .left) in
-    let bit = constant-bit (peaked f) alone in
+    let bit = constant-bit (peak-of (peaked f)) alone in
     let few = pow-mono {j = 10} (f .before .before .before .pre .1) in
     (rw (bit-back bit) bit, omega (arith, peak-below (peaked f .peak) alone))
 

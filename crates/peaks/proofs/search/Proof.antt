@@ -9,7 +9,7 @@ use Rattle.area.specs.Area.{at}
 use Rattle.area.specs.Numbers.{stored, stored-eq}
 use Rattle.peaks.specs.Peaks.{firstOf, secondOf, Sizes}
 use Rattle.peaks.specs.Found.{Held, held-sizes, held-searched, sizes-held, sizes-small, Searched, searched-many, searched-peak, searched-place}
-use Rattle.peaks.specs.Stored.{as-it-is, size-whole, size-small, peak-as}
+use Rattle.peaks.specs.Stored.{as-it-is, size-whole, size-casts, peak-as}
 use Rattle.peaks.proofs.search.Statement.{statement}
 use Rattle.peaks.proofs.search.Tie as tie
 use Rattle.peaks.proofs.search.Reads as reads
@@ -135,6 +135,12 @@ slice-copy-out-z c =
     let p = c .before .before .before .before .before .before .before .before in
     omega (arith, below c, p .pair-sizes .ensures .long, p .before .before .pre .size)
 
+add-peak-at : tie.Need-add-peak-at
+add-peak-at c = omega (arith, below (c .before))
+
+cast-peak-at : tie.Need-cast-peak-at
+cast-peak-at c = let g = c .before .before .before .before .before in size-casts (g .greatest .ensures) (g .greatest .ok)
+
 first-of-requires : tie.Need-first-of-requires
 first-of-requires c κs = pair-small (c .before)
 
@@ -142,13 +148,7 @@ second-of-requires : tie.Need-second-of-requires
 second-of-requires c κs = pair-small (c .before .before)
 
 peak-at-requires : tie.Need-peak-at-requires
-peak-at-requires c κs =
-    let k = c .before .before .before .before in
-    let g = k .before .before .before in
-    let s = g .before .before .before .before .before .before in
-    let e = g .greatest .ensures in
-    let l = g .greatest .ok in
-    (s .pre .few, below (c .before .before .before), size-whole e l, size-small e l)
+peak-at-requires c κs = search needs
 
 same-length-2 : tie.Need-same-length-2
 same-length-2 c = search needs
@@ -158,8 +158,9 @@ returns-2 c =
     let e = c .before .before .before .before in
     let k = e .before in
     let g = k .before .before .before in
+    let n = g .before .before .before .before .before .before .args .h in
     searched-peak (told k) (e .if1 .left)
-    (peak-as (as-it-is (g .greatest .ok)) (first-is (c .before .before)) (second-is (c .before)) (c .peak-at .ensures))
+    (peak-as (n + n) (g .greatest .result) (g .greatest .ok) (first-is (c .before .before)) (second-is (c .before)) (c .peak-at .ensures))
 
 pub search-spec : {M : Type 1} → statement M
 search-spec =
@@ -182,6 +183,8 @@ search-spec =
     cast-j
     mul-z
     slice-copy-out-z
+    add-peak-at
+    cast-peak-at
     first-of-requires
     second-of-requires
     peak-at-requires

@@ -10,7 +10,7 @@ use Rattle.area.specs.Area.{at}
 use Rattle.area.specs.Numbers.{stored}
 use Rattle.peaks.specs.Found.{Held, held-sizes, held-searched, Searched, searched-many, searched-peak, searched-place}
 use Rattle.peaks.specs.Peaks.{Sizes}
-use Rattle.peaks.specs.Stored.{number-read, as-it-is, size-whole, size-small, peak-as}
+use Rattle.peaks.specs.Stored.{number-read, as-it-is, size-whole, size-casts, peak-as}
 use Rattle.quarters.specs.Quarters.{firsts, lasts, Quads}
 use Rattle.quarters.specs.QuadSizes.{sizes-held, sizes-small, sized-quads, lowOf, low-below, first-at, last-at}
 use Rattle.quarters.proofs.QuadReads.{quad-read, quad-raisable}
@@ -160,13 +160,19 @@ pair-at-requires c κs =
     let e = c .before in
     quad-raisable (quads-at (sized (e .before))) (low e) (quad-below e)
 
+add-peak-at : tie.Need-add-peak-at
+add-peak-at c =
+    let e = c .before .before in
+    omega (arith, place-below e, pairs-few (sized (e .before)))
+
+cast-peak-at : tie.Need-cast-peak-at
+cast-peak-at c = let g = c .before .before .before .before .before .before in size-casts (g .greatest .ensures) (g .greatest .ok)
+
+add-peak-at-2 : tie.Need-add-peak-at-2
+add-peak-at-2 c = omega (arith, pairs-few (sized (c .before .before .before)))
+
 peak-at-requires : tie.Need-peak-at-requires
-peak-at-requires c κs =
-    let e = c .before .before .before .before in
-    let g = e .before .before .before .before in
-    let m = g .greatest .ensures in
-    let l = g .greatest .ok in
-    (pairs-few (sized (e .before)), place-below e, size-whole m l, size-small m l)
+peak-at-requires c κs = search needs
 
 same-length-2 : tie.Need-same-length-2
 same-length-2 c = search needs
@@ -176,7 +182,9 @@ returns-2 c =
     let p = c .before .before .before in
     let e = p .before .before in
     let g = e .before .before .before .before in
-    searched-peak (told (e .before)) (e .if1 .left) (peak-as (as-it-is (g .greatest .ok)) (first-is p) (last-is p) (c .peak-at .ensures))
+    let q = number (sized (e .before)) in
+    searched-peak (told (e .before)) (e .if1 .left)
+    (peak-as (q + q + (q + q)) (g .greatest .result) (g .greatest .ok) (first-is p) (last-is p) (c .peak-at .ensures))
 
 pub search-spec : {M : Type 1} → statement M
 search-spec =
@@ -202,6 +210,9 @@ search-spec =
     mul-pair-at
     slice-copy-out-pair-at
     pair-at-requires
+    add-peak-at
+    cast-peak-at
+    add-peak-at-2
     peak-at-requires
     same-length-2
     returns-2)

@@ -1,0 +1,227 @@
+-- `blocks::load_eight` meets its contract: all eight quads are made before the first is written. Assumes nothing.
+use mathlib.Core.Path.{ap, _∙_}
+use native.Mathlib.Omega.{arith}
+use lib.ListN.{length, length-set}
+use borrow.Author.Needs.{needs}
+use Rattle.blocks.proofs.Loads.{EightWritten, eightSet, eight-written, eight-lent, eight-back, eight-length}
+use Rattle.blocks.proofs.load_eight.Statement.{statement}
+use Rattle.blocks.proofs.load_eight.Tie as tie
+
+quad-at-requires : tie.Need-quad-at-requires
+quad-at-requires c κs = search needs
+
+add-quad-at : tie.Need-add-quad-at
+add-quad-at c = search needs
+
+quad-at-requires-2 : tie.Need-quad-at-requires-2
+quad-at-requires-2 c κs = search needs
+
+add-quad-at-2 : tie.Need-add-quad-at-2
+add-quad-at-2 c = search needs
+
+quad-at-requires-3 : tie.Need-quad-at-requires-3
+quad-at-requires-3 c κs = search needs
+
+add-quad-at-3 : tie.Need-add-quad-at-3
+add-quad-at-3 c = search needs
+
+quad-at-requires-4 : tie.Need-quad-at-requires-4
+quad-at-requires-4 c κs = search needs
+
+add-quad-at-4 : tie.Need-add-quad-at-4
+add-quad-at-4 c = search needs
+
+quad-at-requires-5 : tie.Need-quad-at-requires-5
+quad-at-requires-5 c κs = search needs
+
+add-quad-at-5 : tie.Need-add-quad-at-5
+add-quad-at-5 c = search needs
+
+quad-at-requires-6 : tie.Need-quad-at-requires-6
+quad-at-requires-6 c κs = search needs
+
+add-quad-at-6 : tie.Need-add-quad-at-6
+add-quad-at-6 c = search needs
+
+quad-at-requires-7 : tie.Need-quad-at-requires-7
+quad-at-requires-7 c κs = search needs
+
+add-quad-at-7 : tie.Need-add-quad-at-7
+add-quad-at-7 c = search needs
+
+quad-at-requires-8 : tie.Need-quad-at-requires-8
+quad-at-requires-8 c κs = search needs
+
+mul-z0 : tie.Need-mul-z0
+mul-z0 c = search needs
+
+slice-set-from-z0 : tie.Need-slice-set-from-z0
+slice-set-from-z0 c = search needs
+
+add-z1 : tie.Need-add-z1
+add-z1 c = search needs
+
+mul-z1 : tie.Need-mul-z1
+mul-z1 c = search needs
+
+slice-set-from-z1 : tie.Need-slice-set-from-z1
+slice-set-from-z1 c = simp length-set (omega arith)
+
+add-z2 : tie.Need-add-z2
+add-z2 c = search needs
+
+mul-z2 : tie.Need-mul-z2
+mul-z2 c = search needs
+
+slice-set-from-z2 : tie.Need-slice-set-from-z2
+slice-set-from-z2 c = simp length-set (omega arith)
+
+add-z3 : tie.Need-add-z3
+add-z3 c = search needs
+
+mul-z3 : tie.Need-mul-z3
+mul-z3 c = search needs
+
+slice-set-from-z3 : tie.Need-slice-set-from-z3
+slice-set-from-z3 c = simp length-set (omega arith)
+
+add-z4 : tie.Need-add-z4
+add-z4 c = search needs
+
+mul-z4 : tie.Need-mul-z4
+mul-z4 c = search needs
+
+slice-set-from-z4 : tie.Need-slice-set-from-z4
+slice-set-from-z4 c = simp length-set (omega arith)
+
+add-z5 : tie.Need-add-z5
+add-z5 c = search needs
+
+mul-z5 : tie.Need-mul-z5
+mul-z5 c = search needs
+
+slice-set-from-z5 : tie.Need-slice-set-from-z5
+slice-set-from-z5 c = simp length-set (omega arith)
+
+add-z6 : tie.Need-add-z6
+add-z6 c = search needs
+
+mul-z6 : tie.Need-mul-z6
+mul-z6 c = search needs
+
+slice-set-from-z6 : tie.Need-slice-set-from-z6
+slice-set-from-z6 c = simp length-set (omega arith)
+
+add-z7 : tie.Need-add-z7
+add-z7 c = search needs
+
+mul-z7 : tie.Need-mul-z7
+mul-z7 c = search needs
+
+slice-set-from-z7 : tie.Need-slice-set-from-z7
+slice-set-from-z7 c = simp length-set (omega arith)
+
+add-e : tie.Need-add-e
+add-e c = search needs
+
+mul-eight : tie.Need-mul-eight
+mul-eight c = search needs
+
+sub-eight : tie.Need-sub-eight
+sub-eight c = search needs
+
+part-eight-start : tie.Need-part-eight-start
+part-eight-start c = search needs
+
+-- the area with the eight quads in it
+abbrev start : tie.After-quad-at8 → tie.Start
+start c = c .before .before .before .before .before .before .before .before .before
+
+written : (c : tie.After-quad-at8) → let s = start c .args in
+    EightWritten (s .word .now) (s .i) (s .area .now)
+    (eightSet (s .area .now) (s .i)
+    (c .before .before .before .before .before .before .before .quad-at .result)
+    (c .before .before .before .before .before .before .quad-at2 .result)
+    (c .before .before .before .before .before .quad-at3 .result)
+    (c .before .before .before .before .quad-at4 .result)
+    (c .before .before .before .quad-at5 .result)
+    (c .before .before .quad-at6 .result)
+    (c .before .quad-at7 .result)
+    (c .quad-at8 .result))
+written c =
+    eight-written (start c .args .word .now) (start c .args .i) (start c .args .area .now) (start c .pre .0 .1)
+    (c .before .before .before .before .before .before .before .quad-at .ensures)
+    (c .before .before .before .before .before .before .quad-at2 .ensures)
+    (c .before .before .before .before .before .quad-at3 .ensures)
+    (c .before .before .before .before .quad-at4 .ensures)
+    (c .before .before .before .quad-at5 .ensures)
+    (c .before .before .quad-at6 .ensures)
+    (c .before .quad-at7 .ensures)
+    (c .quad-at8 .ensures)
+
+part-eight-end : tie.Need-part-eight-end
+part-eight-end c = omega (arith, written c .long)
+
+eight-requires : tie.Need-eight-requires
+eight-requires c κs = let d = c .before in eight-lent (start d .args .word .now) _ _ (start d .pre .0 .1) (written d)
+
+returns : tie.Need-returns
+returns c =
+    let d = c .before .before .before in
+    eight-back (start d .args .word .now) _ _ (start d .pre .0 .1) (written d) (c .before .eight .ensures)
+
+same-length : tie.Need-same-length
+same-length c =
+    let s = start (c .before .before .before) in
+    ap length (returns c) ∙ eight-length (s .args .word .now) (s .args .i) (s .args .area .now) (s .pre .0 .1)
+
+pub load-eight-spec : {M : Type 1} → statement M
+load-eight-spec =
+    tie.close
+    (tie.spec
+    quad-at-requires
+    add-quad-at
+    quad-at-requires-2
+    add-quad-at-2
+    quad-at-requires-3
+    add-quad-at-3
+    quad-at-requires-4
+    add-quad-at-4
+    quad-at-requires-5
+    add-quad-at-5
+    quad-at-requires-6
+    add-quad-at-6
+    quad-at-requires-7
+    add-quad-at-7
+    quad-at-requires-8
+    mul-z0
+    slice-set-from-z0
+    add-z1
+    mul-z1
+    slice-set-from-z1
+    add-z2
+    mul-z2
+    slice-set-from-z2
+    add-z3
+    mul-z3
+    slice-set-from-z3
+    add-z4
+    mul-z4
+    slice-set-from-z4
+    add-z5
+    mul-z5
+    slice-set-from-z5
+    add-z6
+    mul-z6
+    slice-set-from-z6
+    add-z7
+    mul-z7
+    slice-set-from-z7
+    add-e
+    mul-eight
+    sub-eight
+    part-eight-start
+    part-eight-end
+    eight-requires
+    same-length
+    returns)

@@ -1,0 +1,2 @@
+-- Definitions: Blocks.
+pub mod Blocks

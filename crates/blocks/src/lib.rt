@@ -1,0 +1,72 @@
+// A block's bytes taken four to a number, without the area's numbers between, and transformed together.
+ghost use mathlib.Core.Path.{_≡_};
+ghost use Prim.Native.Nat.{_+_, _*_, _^_, _≤_};
+ghost use lib.ListN.{length, take};
+ghost use borrow.Rule.Slice.PartMut.{putMid};
+ghost use Rattle.words.specs.Sum.{tabulate};
+ghost use Rattle.words.specs.Butterflies.{halved};
+ghost use Rattle.hadamard.specs.Correlation.{correlation};
+ghost use Rattle.hadamard.specs.Transform.{sums};
+ghost use Rattle.blocks.specs.Blocks.{quadAt, Bytes, Block, Loaded};
+
+// The values of four bytes, packed: the compiler makes one load of the four.
+fn quad_at(word: &[u8], i: usize) -> i32
+    requires { ⌜ 4 * i + 4 ≤ length (now word) ⌝ }
+    requires { ⌜ Bytes (now word) ⌝ }
+    ensures { λ z. ⌜ z ≡ quadAt (now (word .entry)) i ⌝ }
+{
+    let j = 4 * i;
+    let x = word[j] as u32 + 256 * (word[j + 1] as u32);
+    let y = word[j + 2] as u32 + 256 * (word[j + 3] as u32);
+    16843009 - 2 * ((x + 65536 * y) as i32)
+}
+
+// Eight quads from i on, transformed. All are made before any is written, so that the compiler takes them together and keeps them out of the
+// area until they are transformed.
+fn load_eight(word: &[u8], i: usize, area: &mut [i32])
+    requires { ⌜ (4 * i + 32 ≤ length (now word)) × (i + 8 ≤ length (now area)) ⌝ }
+    requires { ⌜ Bytes (now word) ⌝ }
+    ensures { λ _. ⌜ now (area .exit) ≡ putMid i 8 (now (area .entry)) (halved sums 3 (tabulate 8 (λ k. quadAt (now (word .entry)) (i + k)))) ⌝ }
+{
+    let z0 = quad_at(word, i);
+    let z1 = quad_at(word, i + 1);
+    let z2 = quad_at(word, i + 2);
+    let z3 = quad_at(word, i + 3);
+    let z4 = quad_at(word, i + 4);
+    let z5 = quad_at(word, i + 5);
+    let z6 = quad_at(word, i + 6);
+    let z7 = quad_at(word, i + 7);
+    area[i] = z0;
+    area[i + 1] = z1;
+    area[i + 2] = z2;
+    area[i + 3] = z3;
+    area[i + 4] = z4;
+    area[i + 5] = z5;
+    area[i + 6] = z6;
+    area[i + 7] = z7;
+    let e = i + 8;
+    hadamard::eight(&mut area[i..e]);
+}
+
+// The quads of the block, each eight of them transformed.
+fn load(k: usize, word: &[u8], area: &mut [i32])
+    requires { ⌜ Block k (now word) (now area) ⌝ }
+    ensures { λ _. ⌜ Loaded k (now (word .entry)) (2 ^ k) (now (area .exit)) ⌝ }
+{
+    let q = words::size(k);
+    let mut i = 0;
+    while i < q {
+        load_eight(word, i, area);
+        i += 8;
+    }
+}
+
+// The correlations of the block's quads, in the front of the area.
+pub fn correlate(k: usize, word: &[u8], area: &mut [i32])
+    requires { ⌜ Block k (now word) (now area) ⌝ }
+    ensures { λ _. ⌜ take (2 ^ k) (now (area .exit)) ≡ tabulate (2 ^ k) (correlation k (quadAt (now (word .entry)))) ⌝ }
+{
+    load(k, word, area);
+    let q = words::size(k);
+    hadamard::levels(&mut area[0..q]);
+}

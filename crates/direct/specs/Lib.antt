@@ -1,0 +1,4 @@
+-- Definitions: Direct. The rest are laws.
+pub mod Direct
+pub mod QuadPeaks
+pub mod BlockPeak

@@ -1,0 +1,3 @@
+-- Definitions: Keys. The rest are laws.
+pub mod Keys
+pub mod Bytes

@@ -1,0 +1,3 @@
+-- Definitions: Octets. The rest are laws.
+pub mod Octets
+pub mod OctetLaws
