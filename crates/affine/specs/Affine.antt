@@ -2,14 +2,13 @@
 use Prim.Native.Nat.{ℕ, _+_, _%_, _≤_, _<_}
 use mathlib.Core.List.{List}
 use lib.ListN.{length}
-use lib.Bits.{bitAnd}
-use lib.Count.{ones}
 use lib.IntN.{ℤ, pos, natAbs}
+use Rattle.words.specs.Ones.{affineBit}
 use Rattle.area.specs.Area.{at, IsBit}
 
 -- the number at place p of the codeword of mask u and constant s
 abbrev pub affineAt : ℕ → ℤ → ℕ → ℤ
-affineAt u s p = pos ((natAbs s + ones (bitAnd u p)) % 2)
+affineAt u s p = pos (affineBit u (natAbs s) p)
 
 -- the bit at place i + j of a with the bit t added
 abbrev pub repeated : ℤ → ℕ → List ℤ → ℕ → ℤ

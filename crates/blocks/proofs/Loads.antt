@@ -17,7 +17,7 @@ use Rattle.words.specs.ButterflyLaws.{length-halved}
 use Rattle.words.specs.Levels.{halved-keeps, transformed-blocks, whole-blocks}
 use Rattle.words.specs.Sum.{tabulate}
 use Rattle.words.specs.SumLaws.{getD-tabulate, le-or-lt, length-tabulate, tabulate-ext}
-use Rattle.words.specs.Written.{Written, written-four, written-more}
+use Rattle.words.specs.Written.{Written, written-eight}
 use Rattle.words.specs.Word.{bit}
 use Rattle.area.specs.Area.{at}
 use Rattle.area.specs.Numbers.{stored, stored-eq}
@@ -82,15 +82,8 @@ module _ (w : List ℕ) (i : ℕ) (xs : List ℤ) (room : i + 8 ≤ length xs) w
       {a b c d e f g h : ℤ} → Quad i a → Quad (i + 1) b → Quad (i + 2) c → Quad (i + 3) d
       → Quad (i + 4) e → Quad (i + 5) f → Quad (i + 6) g → Quad (i + 7) h → EightWritten w i xs (eightSet xs i a b c d e f g h)
   eight-written ea eb ec ed ee ef eg eh =
-      written-more
-      (written-more
-      (written-more
-      (written-more
-      (written-four i refl (omega arith) (rw (add-zero i) (held i ea)) (held (i + 1) eb) (held (i + 2) ec) (held (i + 3) ed))
-      (i + 4) _ refl (omega arith) (held (i + 4) ee))
-      (i + 5) _ refl (omega arith) (held (i + 5) ef))
-      (i + 6) _ refl (omega arith) (held (i + 6) eg))
-      (i + 7) _ refl (omega arith) (held (i + 7) eh)
+      written-eight room (rw (add-zero i) (held i ea)) (held (i + 1) eb) (held (i + 2) ec) (held (i + 3) ed)
+      (held (i + 4) ee) (held (i + 5) ef) (held (i + 6) eg) (held (i + 7) eh)
 
   -- lent to be transformed, and back
   module _ {ys : List ℤ} (v : EightWritten w i xs ys) where

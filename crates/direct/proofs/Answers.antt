@@ -4,26 +4,26 @@ use mathlib.Core.Path.{_≡_, refl, sym, ap, subst, _∙_}
 use mathlib.Core.Bool.{true, false}
 use mathlib.Core.List.{List}
 use native.Mathlib.Omega.{arith}
-use lib.IntN.{ℤ, pos, natAbs}
+use lib.IntN.{ℤ, natAbs}
 use lib.ListN.{length, take}
 use lib.Pow.{pow-mono}
+use Rattle.words.specs.Ones.{affineBit}
 use Rattle.words.specs.Sum.{tabulate}
 use Rattle.words.specs.Word.{IsWord}
 use Rattle.area.specs.Area.{IsBit}
 use Rattle.area.specs.AreaLaws.{bit-back}
 use Rattle.area.specs.Numbers.{stored}
-use Rattle.hadamard.specs.Correlation.{values, correlation, affine, constantOf}
+use Rattle.hadamard.specs.Correlation.{values, correlation, affine}
 use Rattle.peaks.specs.declared.Peak.{Peak}
 use Rattle.peaks.specs.Peaks.{IsPeak}
 use Rattle.peaks.specs.Found.{peak-below}
 use Rattle.blocks.specs.Blocks.{quadAt, Block}
-use Rattle.octets.specs.Octets.{affineBit}
 use Rattle.refusals.specs.declared.Refusal.the-variants.{Tie}
 use Rattle.refusals.specs.declared.Decoded.the-variants.{Accepted, Refused}
 use Rattle.rule.specs.Reading.{order1}
 use Rattle.leaves.specs.OrderOne.{PeakOf, nearest, order1-tie, order1-nearest, whole-nearest, constant-bit}
 use Rattle.direct.specs.Direct.{valueAt, Sought, Readable, Gives}
-use Rattle.direct.specs.BlockPeak.{Transformed, block-sought, block-peak}
+use Rattle.direct.specs.BlockPeak.{BlockQuads, block-sought, block-peak}
 
 module _ {m : ℕ} {word out : List ℕ} {area : List ℤ} (r : Readable m word out area) where
   exponent : suc (suc (m - 2)) ≡ m
@@ -46,7 +46,7 @@ module _ {m : ℕ} {word out : List ℕ} {area : List ℤ} (r : Readable m word 
 
   -- the area's first q numbers, after the transform
   module _ (q : ℕ) (ys : List ℤ) (eq : q ≡ 2 ^ (m - 2)) (e : take (2 ^ (m - 2)) ys ≡ tabulate (2 ^ (m - 2)) (correlation (m - 2) (quadAt word))) where
-    quads-are : Transformed (m - 2) word (take (q - 0) ys)
+    quads-are : BlockQuads (m - 2) word (take (q - 0) ys)
     quads-are =
         let all : q - 0 ≡ 2 ^ (m - 2) = omega arith in
         record {

@@ -25,12 +25,12 @@ use Rattle.hadamard.specs.Spread.{correlations-spread}
 use Rattle.direct.specs.Direct.{valueAt, Sought}
 
 -- xs are the correlations of the quads of the word w, of exponent k + 2
-pub record Transformed (k : ℕ) (w : List ℕ) (xs : List ℤ) : Type 0 where
+pub record BlockQuads (k : ℕ) (w : List ℕ) (xs : List ℤ) : Type 0 where
   pub few : k ≤ 5
   pub word : IsWord (suc (suc k)) w
   pub quads : xs ≡ tabulate (2 ^ k) (correlation k (quadAt w))
 
-module _ {k : ℕ} {w : List ℕ} {xs : List ℤ} (t : Transformed k w xs) where
+module _ {k : ℕ} {w : List ℕ} {xs : List ℤ} (t : BlockQuads k w xs) where
   small : 2 ^ k ≤ 32
   small = pow-mono {j = 5} (t .few)
 

@@ -12,9 +12,9 @@ use Rattle.words.specs.Sum.{sumBelow, total}
 use Rattle.words.specs.SumLaws.{sum-ext}
 use Rattle.words.specs.TopBit.{ones-zero}
 use Rattle.words.specs.Xor.{xor-bits}
-use Rattle.words.specs.Ones.{ones-and, ones-block}
+use Rattle.words.specs.Ones.{affineBit, ones-and, ones-block}
 use Rattle.words.specs.Written.{Written, written-run}
-use Rattle.octets.specs.Octets.{octet, EightBits, affineBit}
+use Rattle.octets.specs.Octets.{octet, EightBits}
 
 -- the same bits
 pub octet-ext : (f g : ℕ → ℕ) → ((i : ℕ) → i < 8 → f i ≡ g i) → octet f ≡ octet g

@@ -1,7 +1,5 @@
 -- Eight bits in the eight bytes of a number. Assumes nothing.
-use Prim.Native.Nat.{ℕ, _+_, _*_, _%_, _^_, _<_}
-use lib.Bits.{bitAnd}
-use lib.Count.{ones}
+use Prim.Native.Nat.{ℕ, _*_, _^_, _<_}
 use Rattle.words.specs.Sum.{sumBelow}
 
 -- the bits f 0, .., f 7, the first in the lowest byte
@@ -11,7 +9,3 @@ octet f = sumBelow 8 (λ i. f i * 256 ^ i)
 -- they are bits
 pub record EightBits (f : ℕ → ℕ) : Type 0 where
   pub each : (i : ℕ) → f i < 2
-
--- the codeword of mask u and constant s at place p
-abbrev pub affineBit : ℕ → ℕ → ℕ → ℕ
-affineBit u s p = (s + ones (bitAnd u p)) % 2

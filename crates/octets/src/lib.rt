@@ -5,9 +5,10 @@ ghost use lib.ListN.{length};
 ghost use lib.IntN.{natAbs};
 ghost use lib.Count.{ones};
 ghost use Rattle.words.specs.Sum.{tabulate};
+ghost use Rattle.words.specs.Ones.{affineBit};
 ghost use Rattle.words.specs.Written.{Written};
 ghost use Rattle.area.specs.Area.{IsBit};
-ghost use Rattle.octets.specs.Octets.{octet, EightBits, affineBit};
+ghost use Rattle.octets.specs.Octets.{octet, EightBits};
 
 // The parity of the ones in u.
 fn parity(u: usize) -> u64

@@ -20,6 +20,7 @@ use Rattle.peaks.specs.Peaks.{pairSize}
 use Rattle.peaks.specs.Stored.{raise-fits, raise-is, raise-casts, lower-fits, lower-is}
 use Rattle.quads.specs.Quads.{quad, raised, numberOf, Raisable, quadSigns, QuarterBits}
 use Rattle.quads.specs.QuadLaws.{signs-size}
+use Rattle.quads.specs.FourSigns.{code, code-le, double-fits, signs-fit, signs-are}
 use Rattle.quads.specs.Small.{number-small}
 
 -- ---- the signs of four bits: 16843009 - 2 * (x + 65536 * y), where x and y are pairs of bits
@@ -49,52 +50,35 @@ abbrev coded : ℤ → ℤ → ℤ → ℤ → ℤ
 coded a b c d = stored (pair a b) +ℤ stored (pos 65536 *ℤ stored (pair c d))
 
 module _ {a b c d : ℤ} (ha : IsBit a) (hb : IsBit b) (hc : IsBit c) (hd : IsBit d) where
-  abbrev code : ℕ
-  code = natAbs a + 256 * natAbs b + 65536 * (natAbs c + 256 * natAbs d)
+  abbrev bits : ℕ
+  bits = code (natAbs a) (natAbs b) (natAbs c) (natAbs d)
 
-  code-le : code ≤ 16843009
-  code-le = omega (arith, bit-lt ha, bit-lt hb, bit-lt hc, bit-lt hd)
+  few : bits ≤ 16843009
+  few = code-le (natAbs a) (natAbs b) (natAbs c) (natAbs d) (bit-lt ha) (bit-lt hb) (bit-lt hc) (bit-lt hd)
 
   pub second-fits : SFits w32 (pos 65536 *ℤ stored (pair c d))
-  second-fits = rw (pair-is hc hd) (fits-32 _ (omega (arith, code-le)))
+  second-fits = rw (pair-is hc hd) (fits-32 _ (omega (arith, few)))
 
-  coded-is : coded a b c d ≡ pos code
+  coded-is : coded a b c d ≡ pos bits
   coded-is = rw (toZ-ofZ second-fits, pair-is ha hb, pair-is hc hd)
 
   pub coded-fits : SFits w32 (coded a b c d)
-  coded-fits = rw coded-is (fits-32 _ (omega (arith, code-le)))
+  coded-fits = rw coded-is (fits-32 _ (omega (arith, few)))
 
-  double-is : pos 2 *ℤ stored (coded a b c d) ≡ pos (2 * code)
-  double-is = rw (toZ-ofZ coded-fits, coded-is)
+  coded-held : stored (coded a b c d) ≡ pos bits
+  coded-held = toZ-ofZ coded-fits ∙ coded-is
 
-  pub double-fits : SFits w32 (pos 2 *ℤ stored (coded a b c d))
-  double-fits = rw double-is (fits-32 _ (omega (arith, code-le)))
+  pub coded-double : SFits w32 (pos 2 *ℤ stored (coded a b c d))
+  coded-double = double-fits coded-held few
 
-  pub signs-fit : SFits w32 (pos 16843009 -ℤ stored (pos 2 *ℤ stored (coded a b c d)))
-  signs-fit =
-      rw (toZ-ofZ double-fits, double-is)
-      (fits-32 _ (omega (arith, code-le, natAbs-add (pos 16843009) (negℤ (pos (2 * code))), natAbs-neg (pos (2 * code)))))
+  pub coded-rest : SFits w32 (pos 16843009 -ℤ stored (pos 2 *ℤ stored (coded a b c d)))
+  coded-rest = signs-fit coded-held few
 
-pub signs-are :
-    {a b c d : ℤ} → IsBit a → IsBit b → IsBit c → IsBit d
-    → stored (pos 16843009 -ℤ stored (pos 2 *ℤ stored (coded a b c d)))
-    ≡ quad (sign (natAbs a)) (sign (natAbs b)) (sign (natAbs c)) (sign (natAbs d))
-signs-are zero-bit zero-bit zero-bit zero-bit = refl
-signs-are zero-bit zero-bit zero-bit one-bit = refl
-signs-are zero-bit zero-bit one-bit zero-bit = refl
-signs-are zero-bit zero-bit one-bit one-bit = refl
-signs-are zero-bit one-bit zero-bit zero-bit = refl
-signs-are zero-bit one-bit zero-bit one-bit = refl
-signs-are zero-bit one-bit one-bit zero-bit = refl
-signs-are zero-bit one-bit one-bit one-bit = refl
-signs-are one-bit zero-bit zero-bit zero-bit = refl
-signs-are one-bit zero-bit zero-bit one-bit = refl
-signs-are one-bit zero-bit one-bit zero-bit = refl
-signs-are one-bit zero-bit one-bit one-bit = refl
-signs-are one-bit one-bit zero-bit zero-bit = refl
-signs-are one-bit one-bit zero-bit one-bit = refl
-signs-are one-bit one-bit one-bit zero-bit = refl
-signs-are one-bit one-bit one-bit one-bit = refl
+  pub coded-signs :
+      stored (pos 16843009 -ℤ stored (pos 2 *ℤ stored (coded a b c d)))
+      ≡ quad (sign (natAbs a)) (sign (natAbs b)) (sign (natAbs c)) (sign (natAbs d))
+  coded-signs =
+      signs-are (natAbs a) (natAbs b) (natAbs c) (natAbs d) coded-held (bit-lt ha) (bit-lt hb) (bit-lt hc) (bit-lt hd)
 
 -- ---- quads of signs in the area
 

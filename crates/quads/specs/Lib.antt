@@ -1,4 +1,5 @@
 -- Definitions: Quads. The rest are laws.
 pub mod Quads
 pub mod QuadLaws
+pub mod FourSigns
 pub mod Small

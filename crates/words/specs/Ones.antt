@@ -1,4 +1,5 @@
--- The ones in u AND p, by the lowest digit and by blocks of 2 ^ h places. Assumes nothing.
+-- The bits of first order codewords by their masks, and the ones in u AND p: by the lowest digit and by blocks of 2 ^ h places.
+-- Assumes nothing.
 use Prim.Native.Nat.{ℕ, _+_, _*_, _/_, _%_, _^_, _<_, min}
 use mathlib.Core.Path.{_≡_, sym, ap, ap₂, _∙_}
 use native.Mathlib.Nat.{add-zero, zero-add, zero-mul, mod-lt, div-add-mod'}
@@ -8,6 +9,10 @@ use lib.Count.{ones, ones-cat, ones-step}
 use lib.Pow.{pow-pos}
 use Rattle.words.specs.TopBit.{ones-zero}
 use Rattle.words.specs.Xor.{and-half, and-low}
+
+-- the bit at place p of the codeword of mask u and constant s
+abbrev pub affineBit : ℕ → ℕ → ℕ → ℕ
+affineBit u s p = (s + ones (bitAnd u p)) % 2
 
 -- by the lowest digit
 pub ones-and : (u p : ℕ) → ones (bitAnd u p) ≡ min (u % 2) (p % 2) + ones (bitAnd (u / 2) (p / 2))

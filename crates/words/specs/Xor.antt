@@ -14,7 +14,7 @@ by-bit P p q zero h = p
 by-bit P p q (suc zero) h = q
 by-bit P p q (suc (suc x)) h = absurd (omega arith)
 
-by-bits : (P : ℕ → ℕ → Type 0) → P 0 0 → P 0 1 → P 1 0 → P 1 1 → (x y : ℕ) → x < 2 → y < 2 → P x y
+pub by-bits : (P : ℕ → ℕ → Type 0) → P 0 0 → P 0 1 → P 1 0 → P 1 1 → (x y : ℕ) → x < 2 → y < 2 → P x y
 by-bits P a b c d x y hx hy = by-bit (λ (z : ℕ). P z y) (by-bit (P 0) a b y hy) (by-bit (P 1) c d y hy) x hx
 
 differ-lt : (x y : ℕ) → x < 2 → y < 2 → differ x y < 2

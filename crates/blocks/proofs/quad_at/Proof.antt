@@ -3,7 +3,7 @@ use Prim.Native.Nat.{_+_, _*_, _≤_}
 use native.Mathlib.Omega.{arith}
 use borrow.Author.Needs.{needs}
 use Rattle.words.specs.Word.{bit}
-use Rattle.blocks.proofs.ByteCasts.{packed-le, packed-signs, double-fits, signs-fit}
+use Rattle.blocks.proofs.ByteCasts.{packed-double, packed-le, packed-rest, packed-signs}
 use Rattle.blocks.proofs.quad_at.Statement.{statement}
 use Rattle.blocks.proofs.quad_at.Tie as tie
 
@@ -71,10 +71,10 @@ cast-result : tie.Need-cast-result
 cast-result c = record { sfits = omega (arith, small (c .before .before .before .before)) }
 
 mul-result-2 : tie.Need-mul-result-2
-mul-result-2 c = double-fits _ (small (c .before .before .before .before))
+mul-result-2 c = packed-double (c .before .before .before .before .pre .1) _
 
 sub-result : tie.Need-sub-result
-sub-result c = signs-fit _ (small (c .before .before .before .before))
+sub-result c = packed-rest (c .before .before .before .before .pre .1) _
 
 returns : tie.Need-returns
 returns c = packed-signs (c .before .before .before .before .pre .1) _

@@ -8,11 +8,11 @@ use lib.ListN.{length}
 use lib.IntN.{ℤ, natAbs}
 use mir.Syntax.{w32}
 use mir.Val.{toZ}
+use Rattle.words.specs.Ones.{affineBit}
 use Rattle.words.specs.Sum.{tabulate}
 use Rattle.words.specs.Written.{Written, written-none, written-to, written-all}
 use Rattle.area.specs.AreaLaws.{bit-back}
 use Rattle.area.specs.Numbers.{stored}
-use Rattle.octets.specs.Octets.{affineBit}
 use Rattle.octets.specs.OctetLaws.{AffineEight, affine-first, affine-eight, eight-more}
 use Rattle.octets.proofs.write_affine.Statement.{statement}
 use Rattle.octets.proofs.write_affine.Tie as tie

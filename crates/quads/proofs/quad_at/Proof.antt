@@ -3,7 +3,7 @@ use Prim.Native.Nat.{_+_, _*_}
 use native.Mathlib.Omega.{arith}
 use borrow.Author.Needs.{needs}
 use Rattle.area.specs.Area.{at, IsBit}
-use Rattle.quads.proofs.QuadCasts.{scaled-fits, pair-fits, second-fits, coded-fits, double-fits, signs-fit, signs-are}
+use Rattle.quads.proofs.QuadCasts.{scaled-fits, pair-fits, second-fits, coded-fits, coded-double, coded-rest, coded-signs}
 use Rattle.quads.proofs.quad_at.Statement.{statement}
 use Rattle.quads.proofs.quad_at.Tie as tie
 
@@ -78,13 +78,13 @@ add-result : tie.Need-add-result
 add-result c = let s = c .before .before .before .before in coded-fits (first s) (second s) (third s) (fourth s)
 
 mul-result-2 : tie.Need-mul-result-2
-mul-result-2 c = let s = c .before .before .before .before in double-fits (first s) (second s) (third s) (fourth s)
+mul-result-2 c = let s = c .before .before .before .before in coded-double (first s) (second s) (third s) (fourth s)
 
 sub-result : tie.Need-sub-result
-sub-result c = let s = c .before .before .before .before in signs-fit (first s) (second s) (third s) (fourth s)
+sub-result c = let s = c .before .before .before .before in coded-rest (first s) (second s) (third s) (fourth s)
 
 returns : tie.Need-returns
-returns c = let s = c .before .before .before .before in signs-are (first s) (second s) (third s) (fourth s)
+returns c = let s = c .before .before .before .before in coded-signs (first s) (second s) (third s) (fourth s)
 
 pub quad-at-spec : {M : Type 1} → statement M
 quad-at-spec =
