@@ -1,18 +1,24 @@
 -- Document 01, "Meter bench values", as one table: each row is a question with its value. Assumes nothing.
 use Prim.Native.Nat.{ℕ, suc, pred, _-_, _/_, _%_, _^_}
-use mathlib.Core.Path.{_≡_, refl, ap, ap₂}
+use mathlib.Core.Path.{_≡_, refl, ap, ap₂, _∙_}
 use mathlib.Core.List.{List, [], _∷_, _++_, map}
+use native.Mathlib.Omega.{arith}
 use lib.Bits.{bitXor}
 use lib.Count.{leadingZeros, ones, onesIn}
+use lib.Dec.{eqb}
 use Rattle.code.specs.Code.{codeword, codewordTest, coefficient, lowTest, monomial, rank, spread}
+use Rattle.code.specs.Inverse.{encoder-codeword}
+use Rattle.rule.specs.Covariance.{reading-add}
 use Rattle.rule.specs.Decoding.{after, decodeOf, limited}
 use Rattle.rule.specs.Reading.{Outcome, abstained, accepted, flipped, flips, order0, order1, reading, refused, roundLeaves, rounds, votes}
-use Rattle.rule.specs.WorkedRounds.{four-rounds, one-round-only, wrong, zeros}
+use Rattle.rule.specs.Outcomes.{shift}
+use Rattle.rule.specs.WorkedRounds.{four-rounds, mended, one-round-only, stopped, wrong, zeros}
 use Rattle.direction.specs.Direction.{cosetOf, deleteBit, highest, insertZero, project, representative}
 use Rattle.hadamard.specs.Correlation.{affine, correlation, countBelow, firstBelow}
 use Rattle.refusals.specs.Refusals.{firstRefusal}
 use Rattle.words.specs.Sum.{tabulate, total}
-use Rattle.words.specs.Word.{addWords}
+use Rattle.words.specs.Word.{addWords, indicator}
+use Rattle.words.specs.WordLaws.{indicator-lt, word-tabulate}
 
 -- a question, and last in it the value
 pub data Row : Type 0 where
@@ -38,7 +44,7 @@ valued (decodes m r rounds leaves w x) = decodes m r rounds leaves w (decodeOf m
 abbrev pub digits : ℕ → ℕ → List ℕ
 digits n x = tabulate n (λ p. x / 10 ^ (n - suc p) % 10)
 
--- the values marked (P)
+-- the values marked (P), of exponents to 3
 unfoldable pub marked : List Row
 marked =
     encodes 2 1 (digits 3 101) (digits 4 1100)
@@ -54,7 +60,12 @@ marked =
     ∷ decodes 3 2 4 1000000 (digits 8 10000000) (refused 11 1 7)
     ∷ decodes 3 2 4 7 (digits 8 10000000) (refused 11 1 7)
     ∷ decodes 3 2 4 6 (digits 8 10000000) (refused 12 0 6)
-    ∷ decodes 4 2 2 1000000 (wrong 16) (accepted (zeros 16) 2 30)
+    ∷ []
+
+-- those of exponent 4: only place 0 wrong, and the same block plus a codeword
+unfoldable pub four : List Row
+four =
+    decodes 4 2 2 1000000 (wrong 16) (accepted (zeros 16) 2 30)
     ∷ decodes 4 2 2 29 (wrong 16) (refused 12 0 29)
     ∷ decodes 4 2 1 15 (wrong 16) (refused 10 1 15)
     ∷ decodes 4 2 1 14 (wrong 16) (refused 12 0 14)
@@ -85,7 +96,20 @@ deep =
     ∷ []
 
 unfoldable pub table : List Row
-table = (marked ++ sixteen ++ beside) ++ deep
+table = (marked ++ sixteen ++ beside) ++ four ++ deep
+
+-- the block plus a codeword, by covariance
+plus : reading 2 4 2 (digits 16 1001000100010001) ≡ accepted (digits 16 0001000100010001) 2 30
+unfolding tabulate addWords codeword monomial rank spread total ones onesIn
+plus =
+    let message : List ℕ = digits 11 00010000000 in
+    reading-add 2 4 2 (omega arith) (omega arith) (wrong 16) (codeword 4 2 message) (word-tabulate 4 (λ p. indicator (eqb p 0)) (λ p l. indicator-lt (eqb p 0)))
+    (encoder-codeword 4 2 message)
+    ∙ ap (shift (codeword 4 2 message)) (mended 0)
+
+four-values : map valued four ≡ four
+unfolding four decodeOf after firstRefusal
+four-values = cc (ap (limited 1000000) (mended 0), ap (limited 29) (mended 0), ap (limited 15) stopped, ap (limited 14) stopped, ap (limited 1000000) plus)
 
 deep-values : map valued deep ≡ deep
 unfolding deep decodeOf after firstRefusal
@@ -96,5 +120,5 @@ unfolding marked sixteen beside decodeOf after firstRefusal codewordTest lowTest
 small-values = refl
 
 pub worked-values : map valued table ≡ table
-unfolding table marked sixteen beside tabulate
-worked-values = ap₂ _++_ small-values deep-values
+unfolding table marked sixteen beside four tabulate
+worked-values = ap₂ _++_ small-values (ap₂ _++_ four-values deep-values)
