@@ -45,11 +45,6 @@ impl<'a> Comparison<'a> {
     pub fn calls(&self) -> u64 {
         self.met.iter().sum()
     }
-
-    /// The answers from 0 to 14 that no call met.
-    pub fn never_met(&self) -> Vec<usize> {
-        (0..REFUSALS).filter(|number| self.met[*number] == 0).collect()
-    }
 }
 
 /// The place that 8 names is free, as long as it holds a byte above 1.

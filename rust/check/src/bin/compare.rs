@@ -1,18 +1,20 @@
-//! Compares decoders with the second decoder. Any disagreement prints the call and ends with 1.
+//! Compares decoders with the second decoder, the parts of the plan on as many threads as there are processors. Any disagreement prints the
+//! call and ends with 1.
 
-use check::compare::{Comparison, Disagreement};
+use check::compare::{Comparison, Disagreement, REFUSALS};
 use check::decoder::Decoder;
 use check::{decoders, plan};
 use std::process::ExitCode;
+use std::sync::atomic::{AtomicUsize, Ordering};
 use std::time::Instant;
 
 /// The decoders named on the command line; without names the library, or the packed one where it is left out.
-fn candidates() -> Vec<(String, Box<dyn Decoder>)> {
-    let mut names: Vec<String> = std::env::args().skip(1).collect();
+fn candidates() -> Vec<String> {
+    let names: Vec<String> = std::env::args().skip(1).collect();
     if names.is_empty() {
-        names.push(if cfg!(feature = "library") { "library" } else { "packed" }.to_string());
+        return vec![if cfg!(feature = "library") { "library" } else { "packed" }.to_string()];
     }
-    names.into_iter().map(|name| (name.clone(), decoder(&name))).collect()
+    names
 }
 
 fn decoder(name: &str) -> Box<dyn Decoder> {
@@ -25,33 +27,56 @@ fn decoder(name: &str) -> Box<dyn Decoder> {
     }
 }
 
-fn parts(c: &mut Comparison) -> Result<(), Disagreement> {
-    for (name, part) in plan::WHOLE {
-        let (start, calls, pairs) = (Instant::now(), c.calls(), c.pairs);
-        part(c)?;
-        let (calls, pairs) = (c.calls() - calls, c.pairs - pairs);
-        println!("  {name}: {calls} calls, {pairs} pairs, {:.1} s", start.elapsed().as_secs_f64());
-    }
-    Ok(())
+/// How often each answer was given, and how many pairs agreed.
+struct Met {
+    answers: [u64; REFUSALS],
+    pairs: u64,
 }
 
-fn whole(name: &str, candidate: &mut dyn Decoder) -> Result<(), Disagreement> {
+/// Takes parts of the plan until none is left.
+fn parts(name: &str, next: &AtomicUsize) -> Result<Met, Disagreement> {
+    let mut candidate = decoder(name);
+    let mut c = Comparison::new(candidate.as_mut());
+    while let Some((title, part)) = plan::WHOLE.get(next.fetch_add(1, Ordering::Relaxed)) {
+        let (start, calls, pairs) = (Instant::now(), c.calls(), c.pairs);
+        part(&mut c)?;
+        let (calls, pairs) = (c.calls() - calls, c.pairs - pairs);
+        println!("  {title}: {calls} calls, {pairs} pairs, {:.1} s", start.elapsed().as_secs_f64());
+    }
+    Ok(Met { answers: c.met, pairs: c.pairs })
+}
+
+fn by_threads(name: &str) -> Result<Met, Disagreement> {
+    let next = AtomicUsize::new(0);
+    let threads = std::thread::available_parallelism().map_or(1, |n| n.get());
+    let mut whole = Met { answers: [0; REFUSALS], pairs: 0 };
+    std::thread::scope(|scope| {
+        let workers: Vec<_> = (0..threads).map(|_| scope.spawn(|| parts(name, &next))).collect();
+        for worker in workers {
+            let met = worker.join().expect("a comparison ends")?;
+            whole.answers.iter_mut().zip(met.answers).for_each(|(sum, times)| *sum += times);
+            whole.pairs += met.pairs;
+        }
+        Ok(whole)
+    })
+}
+
+fn whole(name: &str) -> Result<(), Disagreement> {
     println!("{name} against the second decoder");
-    let mut comparison = Comparison::new(candidate);
-    parts(&mut comparison)?;
-    for (number, times) in comparison.met.iter().enumerate() {
+    let met = by_threads(name)?;
+    for (number, times) in met.answers.iter().enumerate() {
         println!("  answer {number:2}: {times}");
     }
-    println!("  {} calls and {} pairs agree", comparison.calls(), comparison.pairs);
-    match comparison.never_met() {
+    println!("  {} calls and {} pairs agree", met.answers.iter().sum::<u64>(), met.pairs);
+    match (0..REFUSALS).filter(|number| met.answers[*number] == 0).collect::<Vec<usize>>() {
         none if none.is_empty() => Ok(()),
         missing => Err(Disagreement(format!("answers never met: {missing:?}"))),
     }
 }
 
 fn main() -> ExitCode {
-    for (name, mut candidate) in candidates() {
-        if let Err(disagreement) = whole(&name, candidate.as_mut()) {
+    for name in candidates() {
+        if let Err(disagreement) = whole(&name) {
             println!("DISAGREEMENT\n{disagreement}");
             return ExitCode::FAILURE;
         }
