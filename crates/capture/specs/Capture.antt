@@ -1,28 +1,16 @@
--- The capture format: document 01, "Captures and the meter listing". Assumes nothing.
-use Prim.Native.Nat.{ℕ, suc, _+_, _-_, _*_, _/_, _%_, _^_}
+-- The records of a capture: document 01, "Captures and the meter listing". Assumes nothing.
+use Prim.Native.Nat.{ℕ, _+_, _*_, _/_, _^_}
 use mathlib.Core.Path.{_≡_}
-use mathlib.Core.Bool.{Bool, true, false, cond}
-use mathlib.Core.List.{List, [], _∷_}
+use mathlib.Core.Bool.{cond}
+use mathlib.Core.List.{List}
 use lib.ListN.{length, getD, drop}
-use lib.Dec.{leb, ltb, eqb}
+use lib.Dec.{ltb, eqb}
 use Rattle.words.specs.Sum.{tabulate}
 use Rattle.refusals.specs.Refusals.{numberOf}
 use Rattle.profiles.specs.Profiles.{profileOf}
+use Rattle.unpacking.specs.Packed.{packedBit}
 use Rattle.capture.specs.declared.Found.{Found}
 use Rattle.capture.specs.declared.Found.the-variants.{Record, Refused, NoneLeft}
-
--- "A capture starts with the three letters WMR, then a 16-bit version, 1, senior byte first."
-abbrev pub header : List ℕ
-header = 0x57 ∷ 0x4d ∷ 0x52 ∷ 0 ∷ 1 ∷ []
-
--- s has the entries of h from index i on
-abbrev pub agreesFrom : List ℕ → ℕ → List ℕ → Bool
-agreesFrom [] i s = true
-agreesFrom (a ∷ h) i s = cond (eqb (getD s i 0) a) (agreesFrom h (suc i) s) false
-
--- "15: header wrong or short."
-abbrev pub headerTest : List ℕ → Bool
-headerTest s = cond (ltb (length s) 5) false (agreesFrom header 0 s)
 
 -- "serial (32 bits, senior byte first)"
 abbrev pub serialOf : List ℕ → ℕ
@@ -39,10 +27,7 @@ wordSize profile = 2 ^ (profileOf profile .m)
 abbrev pub recordSize : ℕ → ℕ
 recordSize profile = 5 + wordSize profile / 8
 
--- "n bits packed, place 0 in the top bit of the first byte"
-abbrev pub packedBit : List ℕ → ℕ → ℕ
-packedBit s p = getD s (5 + p / 8) 0 / 2 ^ (7 - p % 8) % 2
-
+-- a record's bits, as many as its profile's words have
 unfoldable pub unpacked : ℕ → List ℕ → List ℕ
 unpacked profile s = tabulate (wordSize profile) (packedBit s)
 

@@ -5,12 +5,12 @@ use mathlib.Core.List.{List}
 use native.Mathlib.Decide.{decLt}
 use native.Mathlib.Omega.{arith}
 use lib.ListN.{length, take, drop, length-drop}
-use lib.Seq.{take-all, length-take-le, getD-take}
+use lib.Seq.{take-all}
 use borrow.Author.Tests.{lt-ltb, le-ltb, eq-eqb, ne-eqb}
 use Rattle.profiles.specs.Profiles.{profileOf}
 use Rattle.capture.specs.declared.Found.{Found}
 use Rattle.capture.specs.declared.Found.the-variants.{NoneLeft}
-use Rattle.capture.specs.Capture.{Answer, none-left, refused, record-at, Finds, answerOf, bufferOf, headerTest, profileAt, recordIn, recordSize, serialOf, wordSize}
+use Rattle.capture.specs.Capture.{Answer, none-left, refused, record-at, Finds, answerOf, bufferOf, profileAt, recordIn, recordSize, serialOf, wordSize}
 use Rattle.capture.specs.Body.{Stands, bodyLength}
 
 -- ---- the words of the five profiles
@@ -109,13 +109,3 @@ module _ (s : List ℕ) (at : ℕ) where
       | no low ↦ ap (recordIn s at) (omega (arith, known-body s (omega arith) (omega arith), sized (profileAt s) (omega arith) .bytes))
     ]
   ]
-
--- ---- the header
-
--- the first five bytes decide
-pub header-first : (c : List ℕ) → headerTest (take 5 c) ≡ headerTest c
-header-first c = elim (decLt (length c) 5) [
-  | yes short ↦ ap headerTest (take-all 5 c (omega arith))
-  | no k ↦ let l : length (take 5 c) ≡ 5 = length-take-le 5 c (omega arith) in
-      rw (le-ltb (length (take 5 c)) 5 (omega arith), le-ltb (length c) 5 (omega arith), getD-take 5 c 0 0 (omega arith), getD-take 5 c 1 0 (omega arith), getD-take 5 c 2 0 (omega arith), getD-take 5 c 3 0 (omega arith), getD-take 5 c 4 0 (omega arith))
-]

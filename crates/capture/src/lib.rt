@@ -1,9 +1,8 @@
-// The capture reader: the header, and the record that starts at a position.
+// The capture reader: the record that starts at a position.
 ghost use mathlib.Core.Path.{_≡_};
-ghost use Prim.Native.Nat.{_+_, _-_, _/_, _%_, _^_, _≤_, _<_};
+ghost use Prim.Native.Nat.{_+_, _%_, _^_, _≤_, _<_};
 ghost use lib.ListN.{length};
-ghost use Rattle.words.specs.Sum.{tabulate};
-ghost use Rattle.capture.specs.Capture.{headerTest, serialOf, wordSize, packedBit, Finds};
+ghost use Rattle.capture.specs.Capture.{serialOf, wordSize, Finds};
 ghost use Rattle.capture.specs.Body.{bodyLength, Stands};
 use refusals::Refusal;
 
@@ -14,29 +13,6 @@ pub enum Found {
     // why, and the serial, 0 where it is not printed
     Refused(Refusal, u32),
     NoneLeft,
-}
-
-// Whether the capture starts with the mark and version 1.
-pub fn header_is_right(capture: &[u8]) -> bool
-    ensures { λ b. ⌜ b ≡ headerTest (now (capture .entry)) ⌝ }
-{
-    if capture.len() < 5 {
-        return false;
-    }
-    let mark = b"WMR";
-    if capture[0] != mark[0] {
-        return false;
-    }
-    if capture[1] != mark[1] {
-        return false;
-    }
-    if capture[2] != mark[2] {
-        return false;
-    }
-    if capture[3] != 0 {
-        return false;
-    }
-    capture[4] == 1
 }
 
 fn wide(b: u8) -> u32
@@ -51,28 +27,6 @@ fn serial_of(part: &[u8]) -> u32
     ensures { λ n. ⌜ n ≡ serialOf (now (part .entry)) ⌝ }
 {
     ((wide(part[0]) * 256 + wide(part[1])) * 256 + wide(part[2])) * 256 + wide(part[3])
-}
-
-// The bits of a byte, the top one first.
-fn unpack_byte(b: u8, bits: &mut [u8])
-    requires { ⌜ length (now bits) ≡ 8 ⌝ }
-    ensures { λ _. ⌜ now (bits .exit) ≡ tabulate 8 (λ i. b / 2 ^ (7 - i) % 2) ⌝ }
-{
-    for i in 0..8 {
-        bits[i] = (b >> (7 - i)) % 2;
-    }
-}
-
-// The bits packed after the five bytes of the record's head, one a place of the word.
-fn unpack(part: &[u8], word: &mut [u8])
-    requires { ⌜ (length (now word) % 8 ≡ 0) × (5 + length (now word) / 8 ≤ length (now part)) ⌝ }
-    ensures { λ _. ⌜ now (word .exit) ≡ tabulate (length (now (word .entry))) (packedBit (now (part .entry))) ⌝ }
-{
-    let bytes = word.len() / 8;
-    for k in 0..bytes {
-        let at = 8 * k;
-        unpack_byte(part[5 + k], &mut word[at..at + 8]);
-    }
 }
 
 // The word length of a profile.
@@ -108,7 +62,7 @@ fn record_in(part: &[u8], at: usize, word: &mut [u8]) -> Found
     if word.len() != n {
         return Found::Refused(Refusal::OutputLength, serial);
     }
-    unpack(part, word);
+    unpacking::unpack(part, word);
     Found::Record(serial, profile, at + end)
 }
 

@@ -6,8 +6,8 @@ use mathlib.Core.Bool.{Bool, true, false}
 use mathlib.Core.List.{List, [], _++_, append-assoc}
 use lib.ListN.{length, take, drop, length-append, length-drop, take-append-drop}
 use lib.Seq.{take-all}
-use Rattle.capture.specs.Capture.{headerTest}
-use Rattle.capture.specs.Cases.{header-first}
+use Rattle.header.specs.Header.{headerTest}
+use Rattle.header.specs.HeaderLaws.{header-first}
 use Rattle.lines.specs.Lines.{lastLine, headerLine, Entry}
 use Rattle.listing.specs.declared.Listed.{Listed}
 use Rattle.listing.specs.Listing.{linesOf, acceptedOf, listingOf}

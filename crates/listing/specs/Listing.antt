@@ -4,8 +4,9 @@ use mathlib.Core.Bool.{cond}
 use mathlib.Core.List.{List, [], _∷_, _++_}
 use lib.ListN.{length, drop}
 use lib.Dec.{eqb}
+use Rattle.header.specs.Header.{headerTest}
 use Rattle.capture.specs.Capture as capture
-use Rattle.capture.specs.Capture.{headerTest, profileAt, wordSize, unpacked, recordIn}
+use Rattle.capture.specs.Capture.{profileAt, wordSize, unpacked, recordIn}
 use Rattle.lines.specs.Lines.{refusedLine, cutLine, lastLine, headerLine, Entry, entry, recordEntry}
 
 -- the line of what stands at the start of s, and the lines of what follows: "14 ends the reading after its line", and so does 16

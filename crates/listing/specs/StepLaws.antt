@@ -12,10 +12,11 @@ use lib.Seq.{take-length}
 use Rattle.words.specs.Word.{IsWord}
 use Rattle.words.specs.WordLaws.{word-tabulate}
 use Rattle.profiles.specs.Profiles.{profileOf}
+use Rattle.unpacking.specs.Packed.{packedBit}
 use Rattle.capture.specs.declared.Found.{Found}
 use Rattle.capture.specs.declared.Found.the-variants as found
 use Rattle.capture.specs.Capture as capture
-use Rattle.capture.specs.Capture.{Finds, answerOf, bufferOf, packedBit, profileAt, recordIn, recordSize, unpacked, wordSize}
+use Rattle.capture.specs.Capture.{Finds, answerOf, bufferOf, profileAt, recordIn, recordSize, unpacked, wordSize}
 use Rattle.capture.specs.Body.{bodyLength}
 use Rattle.capture.specs.Cases.{none, own-size, sized}
 use Rattle.rule.specs.Reading.{Outcome, accepted, refused}

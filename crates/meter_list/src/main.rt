@@ -102,7 +102,7 @@ fn main() {
     let mut header = [0u8; 5];
     let mut out = io::large_buffer();
     let got = io::read_full(STDIN_FILENO, &mut header);
-    if !capture::header_is_right(&header[..got]) {
+    if !header::header_is_right(&header[..got]) {
         let n = listing::header_line(&mut out);
         io::write_all(STDOUT_FILENO, &out[..n]);
         return;

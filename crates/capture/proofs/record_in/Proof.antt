@@ -6,7 +6,8 @@ use native.Mathlib.Omega.{arith}
 use lib.ListN.{length}
 use borrow.Author.Needs.{needs}
 use Rattle.words.specs.Sum.{tabulate}
-use Rattle.capture.specs.Capture.{refused, packedBit, profileAt, unpacked, wordSize}
+use Rattle.unpacking.specs.Packed.{packedBit}
+use Rattle.capture.specs.Capture.{refused, profileAt, unpacked, wordSize}
 use Rattle.capture.specs.Cases.{none, no-head, unknown, no-body, no-room, whole, stands}
 use Rattle.capture.proofs.record_in.Statement.{statement}
 use Rattle.capture.proofs.record_in.Tie as tie

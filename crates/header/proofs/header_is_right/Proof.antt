@@ -1,4 +1,4 @@
--- `capture::header_is_right` meets its contract: each return follows from the tests on the way. Assumes nothing.
+-- `header::header_is_right` meets its contract: each return follows from the tests on the way. Assumes nothing.
 use Prim.Native.Nat.{ℕ, _≤_}
 use mathlib.Core.Path.{_≡_, refl}
 use mathlib.Core.Bool.{Bool, true, false, cond}
@@ -7,9 +7,9 @@ use lib.ListN.{length, getD}
 use lib.Dec.{eqb}
 use borrow.Author.Needs.{needs}
 use borrow.Author.Tests.{lt-ltb, le-ltb, eq-eqb, ne-eqb}
-use Rattle.capture.specs.Capture.{headerTest}
-use Rattle.capture.proofs.header_is_right.Statement.{statement}
-use Rattle.capture.proofs.header_is_right.Tie as tie
+use Rattle.header.specs.Header.{headerTest}
+use Rattle.header.proofs.header_is_right.Statement.{statement}
+use Rattle.header.proofs.header_is_right.Tie as tie
 
 itself : (b : Bool) → b ≡ cond b true false
 itself true = refl

@@ -1,12 +1,12 @@
--- `capture::unpack_byte` meets its contract: the loop writes the bits from the front. Assumes nothing.
+-- `unpacking::unpack_byte` meets its contract: the loop writes the bits from the front. Assumes nothing.
 use Prim.Native.Nat.{_-_, _/_, _%_, _^_, _≤_}
 use mathlib.Core.Path.{_≡_, refl}
 use native.Mathlib.Omega.{arith}
 use lib.ListN.{length}
 use borrow.Author.Needs.{needs}
 use Rattle.words.specs.Written.{Written, written-none, written-more, written-to, written-all}
-use Rattle.capture.proofs.unpack_byte.Statement.{statement}
-use Rattle.capture.proofs.unpack_byte.Tie as tie
+use Rattle.unpacking.proofs.unpack_byte.Statement.{statement}
+use Rattle.unpacking.proofs.unpack_byte.Tie as tie
 
 abbrev Inv-loop : tie.InvT-loop
 Inv-loop b bits₀ i₀ bits i = (i ≤ 8) × (length bits ≡ 8) × Written 0 0 i (λ j. b / 2 ^ (7 - j) % 2) bits₀ bits

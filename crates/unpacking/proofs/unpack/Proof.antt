@@ -1,4 +1,4 @@
--- `capture::unpack` meets its contract: the loop writes eight places a turn from the front. Assumes nothing.
+-- `unpacking::unpack` meets its contract: the loop writes eight places a turn from the front. Assumes nothing.
 use Prim.Native.Nat.{ℕ, _+_, _-_, _*_, _/_, _%_, _^_, _≤_, _<_}
 use mathlib.Core.Path.{_≡_, refl, ap, ap₂, _∙_}
 use mathlib.Core.List.{List}
@@ -9,9 +9,9 @@ use Rattle.words.specs.Sum.{tabulate}
 use Rattle.words.specs.SumLaws.{length-tabulate, getD-tabulate}
 use Rattle.words.specs.Parts.{written-part}
 use Rattle.words.specs.Written.{Written, written-none, written-to, written-all}
-use Rattle.capture.specs.Capture.{packedBit}
-use Rattle.capture.proofs.unpack.Statement.{statement}
-use Rattle.capture.proofs.unpack.Tie as tie
+use Rattle.unpacking.specs.Packed.{packedBit}
+use Rattle.unpacking.proofs.unpack.Statement.{statement}
+use Rattle.unpacking.proofs.unpack.Tie as tie
 
 -- the bits of byte k stand at the places from 8 * k on
 byte-bits : {bits : List ℕ} (s : List ℕ) (k : ℕ) → bits ≡ tabulate 8 (λ i. getD s (5 + k) 0 / 2 ^ (7 - i) % 2) → (q : ℕ) → q < 8 → getD bits q 0 ≡ packedBit s (8 * k + q)

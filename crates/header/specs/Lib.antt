@@ -1,0 +1,3 @@
+-- Definitions: Header. HeaderLaws has its law.
+pub mod Header
+pub mod HeaderLaws

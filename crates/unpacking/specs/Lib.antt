@@ -1,0 +1,2 @@
+-- Definitions: Packed.
+pub mod Packed
