@@ -1,4 +1,3 @@
--- Definitions: Lines. What the functions ask and promise: Texts. TextLaws has the laws.
+-- Definitions: Lines. LineLaws has the laws.
 pub mod Lines
-pub mod Texts
-pub mod TextLaws
+pub mod LineLaws

@@ -1,121 +1,19 @@
-// The text of the meter listing, put after what a buffer holds already.
+// The lines of the meter listing, put after what a buffer holds already.
 ghost use mathlib.Core.Path.{_≡_};
-ghost use mathlib.Core.List.{[], _∷_};
-ghost use Prim.Native.Nat.{_+_, _-_, _*_, _/_, _%_, _^_, _≤_, _<_};
+ghost use Prim.Native.Nat.{_+_, _≤_};
 ghost use lib.ListN.{length};
-ghost use Rattle.words.specs.Word.{bit};
-ghost use Rattle.lines.specs.Lines.{tenDigits, decimal, hexDigit, nibble, hexOf, refusalText, acceptedLine, refusedLine, cutLine, lastLine, headerLine, newline};
-ghost use Rattle.lines.specs.Texts.{Appended, Bits};
-
-const POWERS: [u32; 10] = [
-    1000000000,
-    100000000,
-    10000000,
-    1000000,
-    100000,
-    10000,
-    1000,
-    100,
-    10,
-    1,
-];
-
-// Digit i of the ten decimal digits of n.
-fn ten_digit(n: u32, i: usize) -> u8
-    requires { ⌜ i < 10 ⌝ }
-    ensures { λ d. ⌜ d ≡ 48 + n / 10 ^ (9 - i) % 10 ⌝ }
-{
-    48 + (n / POWERS[i] % 10) as u8
-}
-
-// The ten decimal digits of n.
-fn put_ten(n: u32, out: &mut [u8], at: usize) -> usize
-    requires { ⌜ at + 10 ≤ length (now out) ⌝ }
-    ensures { λ end. ⌜ Appended (now (out .entry)) at (tenDigits n) end (now (out .exit)) ⌝ }
-{
-    for i in 0..10 {
-        out[at + i] = ten_digit(n, i);
-    }
-    at + 10
-}
-
-fn put_byte(b: u8, out: &mut [u8], at: usize) -> usize
-    requires { ⌜ at < length (now out) ⌝ }
-    ensures { λ end. ⌜ Appended (now (out .entry)) at (b ∷ []) end (now (out .exit)) ⌝ }
-{
-    out[at] = b;
-    at + 1
-}
-
-fn put_text(text: &[u8], out: &mut [u8], at: usize) -> usize
-    requires { ⌜ at + length (now text) ≤ length (now out) ⌝ }
-    ensures { λ end. ⌜ Appended (now (out .entry)) at (now (text .entry)) end (now (out .exit)) ⌝ }
-{
-    for i in 0..text.len() {
-        out[at + i] = text[i];
-    }
-    at + text.len()
-}
-
-// A number in decimal.
-fn put_decimal(n: u64, out: &mut [u8], at: usize) -> usize
-    requires { ⌜ at + length (decimal n) ≤ length (now out) ⌝ }
-    ensures { λ end. ⌜ Appended (now (out .entry)) at (decimal n) end (now (out .exit)) ⌝ }
-{
-    if n < 10 {
-        return put_byte(48 + n as u8, out, at);
-    }
-    let next = put_decimal(n / 10, out, at);
-    put_byte(48 + (n % 10) as u8, out, next)
-}
-
-// A message bit, 0 past the end.
-fn bit_or_zero(message: &[u8], i: usize) -> u8
-    requires { ⌜ Bits (now message) ⌝ }
-    ensures { λ b. ⌜ (b ≡ bit (now (message .entry)) i) × (b < 2) ⌝ }
-{
-    if i < message.len() { message[i] } else { 0 }
-}
-
-fn nibble_at(message: &[u8], i: usize) -> u8
-    requires { ⌜ Bits (now message) × (4 * i < length (now message) + 8) ⌝ }
-    ensures { λ d. ⌜ (d ≡ nibble (now (message .entry)) i) × (d < 16) ⌝ }
-{
-    let b0 = bit_or_zero(message, 4 * i);
-    let b1 = bit_or_zero(message, 4 * i + 1);
-    let b2 = bit_or_zero(message, 4 * i + 2);
-    let b3 = bit_or_zero(message, 4 * i + 3);
-    ((b0 * 2 + b1) * 2 + b2) * 2 + b3
-}
-
-fn hex_digit(d: u8) -> u8
-    requires { ⌜ d < 16 ⌝ }
-    ensures { λ h. ⌜ h ≡ hexDigit d ⌝ }
-{
-    if d < 10 { 48 + d } else { 87 + d }
-}
-
-// A message in hexadecimal.
-fn put_hex(message: &[u8], out: &mut [u8], at: usize) -> usize
-    requires { ⌜ Bits (now message) × (length (now message) ≤ 1024) × (at + (length (now message) + 7) / 8 * 2 ≤ length (now out)) ⌝ }
-    ensures { λ end. ⌜ Appended (now (out .entry)) at (hexOf (now (message .entry))) end (now (out .exit)) ⌝ }
-{
-    let digits = (message.len() + 7) / 8 * 2;
-    for i in 0..digits {
-        out[at + i] = hex_digit(nibble_at(message, i));
-    }
-    at + digits
-}
+ghost use Rattle.text.specs.Texts.{Appended, Bits};
+ghost use Rattle.lines.specs.Lines.{refusalText, acceptedLine, refusedLine, cutLine, lastLine, headerLine};
 
 // The line of an accepted record.
 pub fn accepted_line(serial: u32, message: &[u8], out: &mut [u8], at: usize) -> usize
     requires { ⌜ Bits (now message) × (length (now message) ≤ 1024) × (at + length (acceptedLine serial (now message)) ≤ length (now out)) ⌝ }
     ensures { λ end. ⌜ Appended (now (out .entry)) at (acceptedLine serial (now (message .entry))) end (now (out .exit)) ⌝ }
 {
-    let a = put_ten(serial, out, at);
-    let b = put_byte(32, out, a);
-    let c = put_hex(message, out, b);
-    put_byte(10, out, c)
+    let a = text::put_ten(serial, out, at);
+    let b = text::put_byte(32, out, a);
+    let c = text::put_hex(message, out, b);
+    text::put_byte(10, out, c)
 }
 
 // " refused " and the number.
@@ -123,8 +21,8 @@ fn put_refusal(number: u8, out: &mut [u8], at: usize) -> usize
     requires { ⌜ at + length (refusalText number) ≤ length (now out) ⌝ }
     ensures { λ end. ⌜ Appended (now (out .entry)) at (refusalText number) end (now (out .exit)) ⌝ }
 {
-    let a = put_text(b" refused ", out, at);
-    put_decimal(number as u64, out, a)
+    let a = text::put_text(b" refused ", out, at);
+    text::put_decimal(number as u64, out, a)
 }
 
 // The line of a refused record.
@@ -132,9 +30,9 @@ pub fn refused_line(serial: u32, number: u8, out: &mut [u8], at: usize) -> usize
     requires { ⌜ at + length (refusedLine serial number) ≤ length (now out) ⌝ }
     ensures { λ end. ⌜ Appended (now (out .entry)) at (refusedLine serial number) end (now (out .exit)) ⌝ }
 {
-    let a = put_ten(serial, out, at);
+    let a = text::put_ten(serial, out, at);
     let b = put_refusal(number, out, a);
-    put_byte(10, out, b)
+    text::put_byte(10, out, b)
 }
 
 // The line of a record that the capture's end cuts off.
@@ -142,9 +40,9 @@ pub fn cut_line(out: &mut [u8], at: usize) -> usize
     requires { ⌜ at + length cutLine ≤ length (now out) ⌝ }
     ensures { λ end. ⌜ Appended (now (out .entry)) at cutLine end (now (out .exit)) ⌝ }
 {
-    let a = put_text(b"----------", out, at);
+    let a = text::put_text(b"----------", out, at);
     let b = put_refusal(16, out, a);
-    put_byte(10, out, b)
+    text::put_byte(10, out, b)
 }
 
 // The last line.
@@ -152,11 +50,11 @@ pub fn last_line(records: u64, accepted: u64, out: &mut [u8], at: usize) -> usiz
     requires { ⌜ at + length (lastLine records accepted) ≤ length (now out) ⌝ }
     ensures { λ end. ⌜ Appended (now (out .entry)) at (lastLine records accepted) end (now (out .exit)) ⌝ }
 {
-    let a = put_decimal(records, out, at);
-    let b = put_text(b" records, ", out, a);
-    let c = put_decimal(accepted, out, b);
-    let d = put_text(b" accepted", out, c);
-    put_byte(10, out, d)
+    let a = text::put_decimal(records, out, at);
+    let b = text::put_text(b" records, ", out, a);
+    let c = text::put_decimal(accepted, out, b);
+    let d = text::put_text(b" accepted", out, c);
+    text::put_byte(10, out, d)
 }
 
 // The line of a capture with a wrong header.
@@ -164,7 +62,7 @@ pub fn header_line(out: &mut [u8], at: usize) -> usize
     requires { ⌜ at + length headerLine ≤ length (now out) ⌝ }
     ensures { λ end. ⌜ Appended (now (out .entry)) at headerLine end (now (out .exit)) ⌝ }
 {
-    let a = put_text(b"file", out, at);
+    let a = text::put_text(b"file", out, at);
     let b = put_refusal(15, out, a);
-    put_byte(10, out, b)
+    text::put_byte(10, out, b)
 }

@@ -5,8 +5,8 @@ use mathlib.Core.Path.{refl, sym}
 use mathlib.Core.List.{List}
 use lib.ListN.{length}
 use lib.Seq.{length-take-le}
-use Rattle.lines.specs.Texts.{Appended}
-use Rattle.lines.specs.TextLaws.{appended-within}
+use Rattle.text.specs.Texts.{Appended}
+use Rattle.text.specs.TextLaws.{appended-within}
 use Rattle.listing.specs.Pieces.{Puts}
 
 pub puts : {room : ℕ} {text before after : List ℕ} {end : ℕ} → room ≤ length before → Appended before 0 text end after → Puts room text before end after

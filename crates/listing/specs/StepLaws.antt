@@ -22,8 +22,8 @@ use Rattle.capture.specs.Cases.{none, own-size, sized}
 use Rattle.rule.specs.Reading.{Outcome, accepted, refused}
 use Rattle.rule.specs.Decoding.{decodeProfileOf}
 use Rattle.lines.specs.Lines.{cutLine, refusedLine, Entry, entry, entryFor, recordEntry}
-use Rattle.lines.specs.Texts.{Appended}
-use Rattle.lines.specs.TextLaws.{appended-within}
+use Rattle.text.specs.Texts.{Appended}
+use Rattle.text.specs.TextLaws.{appended-within}
 use Rattle.records.specs.declared.Line.{Line}
 use Rattle.records.specs.Steps.{Decodable, Lined, lineIn, okIn}
 use Rattle.listing.specs.Listing.{linesOf, acceptedOf}

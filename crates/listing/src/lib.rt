@@ -7,7 +7,7 @@ ghost use lib.Dec.{eqb};
 ghost use Rattle.refusals.specs.Refusals.{numberOf};
 ghost use Rattle.capture.specs.Body.{bodyLength};
 ghost use Rattle.lines.specs.Lines.{cutLine, refusedLine, headerLine, lastLine};
-ghost use Rattle.lines.specs.Texts.{Appended};
+ghost use Rattle.text.specs.Texts.{Appended};
 ghost use Rattle.listing.specs.Pieces.{Lists, Puts, Turn};
 ghost use Rattle.listing.specs.Steps.{Readiness, Stepped};
 ghost use Rattle.listing.specs.PieceLaws.{joined as both};

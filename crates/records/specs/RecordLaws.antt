@@ -29,7 +29,7 @@ use Rattle.rule.specs.ProfileLaws.{profile-code, profile-dimensions}
 use Rattle.rule.specs.Demand3.{Sound, profile-sound, profile-call-sound}
 use Rattle.rule.specs.Calls.{valuesOf, Decodes}
 use Rattle.lines.specs.Lines.{acceptedLine, refusedLine, entry, entryFor, recordEntry}
-use Rattle.lines.specs.Texts.{Bits}
+use Rattle.text.specs.Texts.{Bits}
 use Rattle.records.specs.Steps.{AcceptedWord, Decodable, Readable}
 
 -- ---- the message

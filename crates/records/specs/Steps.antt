@@ -7,7 +7,7 @@ use Rattle.code.specs.Code.{IsCodeword, dimension}
 use Rattle.profiles.specs.Profiles.{profileOf}
 use Rattle.rule.specs.DecodingLaws.{RightSizes}
 use Rattle.lines.specs.Lines.{Entry, entry}
-use Rattle.lines.specs.Texts.{Appended}
+use Rattle.text.specs.Texts.{Appended}
 use Rattle.records.specs.declared.Line.{Line}
 
 -- a codeword, and room for its message

@@ -5,7 +5,7 @@ ghost use lib.ListN.{length};
 ghost use Rattle.profiles.specs.Profiles.{profileOf};
 ghost use Rattle.code.specs.Code.{dimension, messageOf};
 ghost use Rattle.lines.specs.Lines.{acceptedLine, entry, recordEntry};
-ghost use Rattle.lines.specs.Texts.{Appended};
+ghost use Rattle.text.specs.Texts.{Appended};
 ghost use Rattle.records.specs.Steps.{AcceptedWord, Decodable, Lined, Readable};
 use refusals::Decoded;
 

@@ -1,5 +1,6 @@
 -- `lines::accepted_line` meets its contract: its texts stand one after the other. Assumes nothing.
-use Rattle.lines.specs.TextLaws.{then-also, ten-length, hex-length, accepted-length}
+use Rattle.text.specs.TextLaws.{then-also, ten-length, hex-length}
+use Rattle.lines.specs.LineLaws.{accepted-length}
 use borrow.Author.Needs.{needs}
 use native.Mathlib.Omega.{arith}
 use Rattle.lines.proofs.accepted_line.Statement.{statement}

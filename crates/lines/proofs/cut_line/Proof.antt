@@ -1,5 +1,6 @@
 -- `lines::cut_line` meets its contract: its texts stand one after the other. Assumes nothing.
-use Rattle.lines.specs.TextLaws.{then-also, cut-length, refusal-length}
+use Rattle.text.specs.TextLaws.{then-also}
+use Rattle.lines.specs.LineLaws.{cut-length, refusal-length}
 use borrow.Author.Needs.{needs}
 use native.Mathlib.Omega.{arith}
 use Rattle.lines.proofs.cut_line.Statement.{statement}

@@ -1,5 +1,6 @@
 -- `lines::last_line` meets its contract: its texts stand one after the other. Assumes nothing.
-use Rattle.lines.specs.TextLaws.{then-also, last-length}
+use Rattle.text.specs.TextLaws.{then-also}
+use Rattle.lines.specs.LineLaws.{last-length}
 use borrow.Author.Needs.{needs}
 use native.Mathlib.Omega.{arith}
 use Rattle.lines.proofs.last_line.Statement.{statement}

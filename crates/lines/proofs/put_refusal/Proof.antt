@@ -1,5 +1,5 @@
 -- `lines::put_refusal` meets its contract: its texts stand one after the other. Assumes nothing.
-use Rattle.lines.specs.TextLaws.{then-also}
+use Rattle.text.specs.TextLaws.{then-also}
 use borrow.Author.Needs.{needs}
 use Rattle.lines.proofs.put_refusal.Statement.{statement}
 use Rattle.lines.proofs.put_refusal.Tie as tie

@@ -1,5 +1,6 @@
 -- `lines::refused_line` meets its contract: its texts stand one after the other. Assumes nothing.
-use Rattle.lines.specs.TextLaws.{then-also, ten-length, refused-length, refusal-length}
+use Rattle.text.specs.TextLaws.{then-also, ten-length}
+use Rattle.lines.specs.LineLaws.{refused-length, refusal-length}
 use borrow.Author.Needs.{needs}
 use native.Mathlib.Omega.{arith}
 use Rattle.lines.proofs.refused_line.Statement.{statement}

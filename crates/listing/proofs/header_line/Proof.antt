@@ -1,5 +1,6 @@
 -- `listing::header_line` meets its contract. Assumes nothing.
-use Rattle.lines.specs.TextLaws.{header-length, decimal-length}
+use Rattle.text.specs.TextLaws.{decimal-length}
+use Rattle.lines.specs.LineLaws.{header-length}
 use Rattle.listing.specs.PutLaws.{puts, puts-none}
 use borrow.Author.Needs.{needs}
 use native.Mathlib.Omega.{arith}

@@ -1,7 +1,8 @@
 -- `listing::last_line` meets its contract. Assumes nothing.
 use lib.Dec.{lit≤}
 use native.Mathlib.Nat.{lt-of-lt-of-le}
-use Rattle.lines.specs.TextLaws.{last-length, decimal-length}
+use Rattle.text.specs.TextLaws.{decimal-length}
+use Rattle.lines.specs.LineLaws.{last-length}
 use Rattle.listing.specs.PutLaws.{puts, puts-none}
 use borrow.Author.Needs.{needs}
 use native.Mathlib.Omega.{arith}

@@ -9,7 +9,7 @@ use Rattle.words.specs.Word.{bit}
 use Rattle.words.specs.Sum.{tabulate}
 use Rattle.words.specs.SumLaws.{tabulate-ext, tabulate-getD}
 use Rattle.words.specs.Written.{Written, written-none, written-more, written-to}
-use Rattle.lines.specs.TextLaws.{a-run}
+use Rattle.text.specs.TextLaws.{a-run}
 use borrow.Author.Needs.{needs}
 use native.Mathlib.Omega.{arith}
 use Rattle.listing.proofs.move_down.Statement.{statement}

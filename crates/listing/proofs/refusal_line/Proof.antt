@@ -1,7 +1,8 @@
 -- `listing::refusal_line` meets its contract. Assumes nothing.
 use borrow.Author.Tests.{eq-eqb, ne-eqb}
 use Rattle.refusals.specs.Refusals.{numberOf}
-use Rattle.lines.specs.TextLaws.{cut-length, refused-length, decimal-length}
+use Rattle.text.specs.TextLaws.{decimal-length}
+use Rattle.lines.specs.LineLaws.{cut-length, refused-length}
 use borrow.Author.Needs.{needs}
 use native.Mathlib.Omega.{arith}
 use Rattle.listing.proofs.refusal_line.Statement.{statement}

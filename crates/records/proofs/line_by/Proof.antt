@@ -1,6 +1,7 @@
 -- `records::line_by` meets its contract: each answer of the decoder has its line. Assumes nothing.
 use mathlib.Core.Path.{refl}
-use Rattle.lines.specs.TextLaws.{refused-length, decimal-length}
+use Rattle.text.specs.TextLaws.{decimal-length}
+use Rattle.lines.specs.LineLaws.{refused-length}
 use Rattle.records.specs.RecordLaws.{decodes-accepted, accepted-is, refused-is}
 use borrow.Author.Needs.{needs}
 use native.Mathlib.Omega.{arith}

@@ -4,8 +4,8 @@ use mathlib.Core.Path.{sym, ap, subst}
 use mathlib.Core.List.{List}
 use lib.ListN.{length}
 use Rattle.lines.specs.Lines.{acceptedLine}
-use Rattle.lines.specs.Texts.{Appended, Bits}
-use Rattle.lines.specs.TextLaws.{accepted-length}
+use Rattle.text.specs.Texts.{Appended, Bits}
+use Rattle.lines.specs.LineLaws.{accepted-length}
 use Rattle.records.specs.RecordLaws.{message-bits, message-length, reads-message}
 use borrow.Author.Needs.{needs}
 use native.Mathlib.Omega.{arith}

@@ -1,8 +1,8 @@
--- `lines::put_byte` meets its contract. Assumes nothing.
-use Rattle.lines.specs.TextLaws.{one-byte}
+-- `text::put_byte` meets its contract. Assumes nothing.
+use Rattle.text.specs.TextLaws.{one-byte}
 use borrow.Author.Needs.{needs}
-use Rattle.lines.proofs.put_byte.Statement.{statement}
-use Rattle.lines.proofs.put_byte.Tie as tie
+use Rattle.text.proofs.put_byte.Statement.{statement}
+use Rattle.text.proofs.put_byte.Tie as tie
 
 slice-write-out : tie.Need-slice-write-out
 slice-write-out c = search needs

@@ -1,14 +1,14 @@
--- `lines::put_ten` meets its contract: the loop writes a digit a turn. Assumes nothing.
+-- `text::put_ten` meets its contract: the loop writes a digit a turn. Assumes nothing.
 use Prim.Native.Nat.{_+_, _-_, _/_, _%_, _^_, _≤_}
 use mathlib.Core.Path.{_≡_, refl}
 use lib.ListN.{length}
 use Rattle.words.specs.Written.{Written, written-none, written-more, written-to}
-use Rattle.lines.specs.Lines.{tenDigits}
-use Rattle.lines.specs.TextLaws.{a-run}
+use Rattle.text.specs.Numbers.{tenDigits}
+use Rattle.text.specs.TextLaws.{a-run}
 use borrow.Author.Needs.{needs}
 use native.Mathlib.Omega.{arith}
-use Rattle.lines.proofs.put_ten.Statement.{statement}
-use Rattle.lines.proofs.put_ten.Tie as tie
+use Rattle.text.proofs.put_ten.Statement.{statement}
+use Rattle.text.proofs.put_ten.Tie as tie
 
 abbrev Inv-loop : tie.InvT-loop
 Inv-loop n out₀ at i₀ out i = (i ≤ 10) × (length out ≡ length out₀) × Written 0 at i (λ j. 48 + n / 10 ^ (9 - j) % 10) out₀ out

@@ -1,4 +1,4 @@
--- `lines::put_decimal` meets its contract: the digits but the last are those of a tenth of the number. Assumes nothing.
+-- `text::put_decimal` meets its contract: the digits but the last are those of a tenth of the number. Assumes nothing.
 use Prim.Native.Nat.{ℕ, _+_, _/_, _%_, _≤_, _<_}
 use native.Mathlib.Omega.{arith}
 use mathlib.Core.Path.{_≡_, ap}
@@ -7,14 +7,14 @@ use lib.ListN.{length, length-append}
 use borrow.Author.Needs.{needs}
 use borrow.Fn.Kinds.{In}
 use borrow.Fn.PlainCycle.{Measures, is, falls, and}
-use Rattle.lines.specs.Lines.{decimal}
-use Rattle.lines.specs.TextLaws.{decimal-small, decimal-more, then-also}
-use Rattle.lines.proofs.put_decimal.Reads as put-decimal
-use Rattle.lines.proofs.put_decimal.Kinds as put-decimal-kinds
-use Rattle.lines.proofs.+put_decimal.Lts-put_decimal as lts
-use Rattle.lines.proofs.put_byte.Reads as put-byte-reads
-use Rattle.lines.proofs.+put_decimal.{statement}
-use Rattle.lines.proofs.+put_decimal.Tie.{close}
+use Rattle.text.specs.Numbers.{decimal}
+use Rattle.text.specs.TextLaws.{decimal-small, decimal-more, then-also}
+use Rattle.text.proofs.put_decimal.Reads as put-decimal
+use Rattle.text.proofs.put_decimal.Kinds as put-decimal-kinds
+use Rattle.text.proofs.+put_decimal.Lts-put_decimal as lts
+use Rattle.text.proofs.put_byte.Reads as put-byte-reads
+use Rattle.text.proofs.+put_decimal.{statement}
+use Rattle.text.proofs.+put_decimal.Tie.{close}
 
 -- the number falls
 abbrev μ : Measures 1 put-decimal-kinds.ps ℕ

@@ -1,15 +1,15 @@
--- `lines::put_text` meets its contract: the loop writes a byte a turn. Assumes nothing.
+-- `text::put_text` meets its contract: the loop writes a byte a turn. Assumes nothing.
 use Prim.Native.Nat.{_+_, _-_, _≤_}
 use mathlib.Core.Path.{_≡_, refl}
 use lib.ListN.{length}
 use Rattle.words.specs.Word.{bit}
 use Rattle.words.specs.SumLaws.{tabulate-getD}
 use Rattle.words.specs.Written.{Written, written-none, written-more, written-to}
-use Rattle.lines.specs.TextLaws.{a-run}
+use Rattle.text.specs.TextLaws.{a-run}
 use borrow.Author.Needs.{needs}
 use native.Mathlib.Omega.{arith}
-use Rattle.lines.proofs.put_text.Statement.{statement}
-use Rattle.lines.proofs.put_text.Tie as tie
+use Rattle.text.proofs.put_text.Statement.{statement}
+use Rattle.text.proofs.put_text.Tie as tie
 
 abbrev Inv-loop : tie.InvT-loop
 Inv-loop text out₀ at i₀ i-end out i = (i-end ≡ length text) × (i ≤ length text) × (length out ≡ length out₀) × Written 0 at i (bit text) out₀ out

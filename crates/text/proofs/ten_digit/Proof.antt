@@ -1,4 +1,4 @@
--- `lines::ten_digit` meets its contract: the table has the powers of 10. Assumes nothing.
+-- `text::ten_digit` meets its contract: the table has the powers of 10. Assumes nothing.
 use Prim.Native.Nat.{ℕ, _-_, _^_, _<_}
 use mathlib.Core.Path.{_≡_, refl}
 use mathlib.Core.List.{List, [], _∷_}
@@ -9,8 +9,8 @@ use borrow.Author.Tests.{eqb-true}
 use Rattle.words.specs.Sum.{total}
 use Rattle.words.specs.SumLaws.{all-true}
 use borrow.Author.Needs.{needs}
-use Rattle.lines.proofs.ten_digit.Statement.{statement}
-use Rattle.lines.proofs.ten_digit.Tie as tie
+use Rattle.text.proofs.ten_digit.Statement.{statement}
+use Rattle.text.proofs.ten_digit.Tie as tie
 
 abbrev powers : List ℕ
 powers = 1000000000 ∷ 100000000 ∷ 10000000 ∷ 1000000 ∷ 100000 ∷ 10000 ∷ 1000 ∷ 100 ∷ 10 ∷ 1 ∷ []

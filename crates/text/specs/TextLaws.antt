@@ -1,4 +1,4 @@
--- Laws of the text of the listing: texts put one after the other, and how long each is. Assumes nothing.
+-- Laws of text: texts put one after the other, decimal numbers, and how long each is. Assumes nothing.
 use Prim.Native.Nat.{ℕ, zero, suc, _+_, _-_, _*_, _/_, _%_, _^_, _≤_, _<_}
 use native.Mathlib.Nat.{mod-eq-of-lt}
 use native.Mathlib.Numerals.{add-one}
@@ -14,8 +14,8 @@ use borrow.Author.Tests.{lt-ltb, le-ltb}
 use Rattle.words.specs.Sum.{tabulate}
 use Rattle.words.specs.SumLaws.{length-tabulate, getD-tabulate}
 use Rattle.words.specs.Written.{Written}
-use Rattle.lines.specs.Lines.{tenDigits, digitsOf, decimal, hexOf, refusalText, acceptedLine, refusedLine, cutLine, lastLine, headerLine}
-use Rattle.lines.specs.Texts.{Appended}
+use Rattle.text.specs.Numbers.{tenDigits, digitsOf, decimal, hexOf}
+use Rattle.text.specs.Texts.{Appended}
 
 -- ---- texts one after the other
 
@@ -97,21 +97,3 @@ decimal-length (suc k) n h = elim (decLt n 10) [
   | yes l ↦ rw (decimal-small n l) (omega arith)
   | no m ↦ rw (decimal-more n (omega arith)) (omega (arith, length-append (decimal (n / 10)) ((48 + n % 10) ∷ []), decimal-length k (n / 10) (omega arith)))
 ]
-
-pub refusal-length : (number : ℕ) → length (refusalText number) ≡ 9 + length (decimal number)
-refusal-length number = omega arith
-
-pub accepted-length : (serial : ℕ) (message : List ℕ) → length (acceptedLine serial message) ≡ 12 + (length message + 7) / 8 * 2
-accepted-length serial message = simp (length-append, ten-length, hex-length) (omega arith)
-
-pub refused-length : (serial number : ℕ) → length (refusedLine serial number) ≡ 20 + length (decimal number)
-refused-length serial number = simp (length-append, ten-length) (omega arith)
-
-pub cut-length : length cutLine ≡ 20 + length (decimal 16)
-cut-length = simp length-append (omega arith)
-
-pub header-length : length headerLine ≡ 14 + length (decimal 15)
-header-length = simp length-append (omega arith)
-
-pub last-length : (records ok : ℕ) → length (lastLine records ok) ≡ 20 + length (decimal records) + length (decimal ok)
-last-length records ok = simp length-append (omega arith)

@@ -1,10 +1,10 @@
--- `lines::bit_or_zero` meets its contract. Assumes nothing.
+-- `text::bit_or_zero` meets its contract. Assumes nothing.
 use mathlib.Core.Path.{sym}
 use lib.ListN.{List·getD-eq-default}
 use borrow.Author.Needs.{needs}
 use native.Mathlib.Omega.{arith}
-use Rattle.lines.proofs.bit_or_zero.Statement.{statement}
-use Rattle.lines.proofs.bit_or_zero.Tie as tie
+use Rattle.text.proofs.bit_or_zero.Statement.{statement}
+use Rattle.text.proofs.bit_or_zero.Tie as tie
 
 shared-slice-read-result : tie.Need-shared-slice-read-result
 shared-slice-read-result c = search needs
