@@ -9,11 +9,11 @@ use lib.Seq.{take-all}
 use Rattle.header.specs.Header.{headerTest}
 use Rattle.header.specs.HeaderLaws.{header-first}
 use Rattle.lines.specs.Lines.{lastLine, headerLine, Entry}
-use Rattle.listing.specs.declared.Listed.{Listed}
-use Rattle.listing.specs.Listing.{linesOf, acceptedOf, listingOf}
-use Rattle.listing.specs.Pieces.{Lists, Whole, entries}
-use Rattle.listing.specs.EntryLaws.{entries-turns}
-use Rattle.listing.specs.PieceLaws.{entries-nil, whole-nil, whole-append, lines-append, accepted-append}
+use Rattle.pieces.specs.declared.Listed.{Listed}
+use Rattle.pieces.specs.Listing.{linesOf, acceptedOf, listingOf}
+use Rattle.pieces.specs.Pieces.{Lists, Whole, entries}
+use Rattle.entries.specs.EntryLaws.{entries-turns}
+use Rattle.pieces.specs.PieceLaws.{entries-nil, whole-nil, whole-append, lines-append, accepted-append}
 
 -- the state of a program that lists the records s: the text that it has written, the records and accepted records that it has counted,
 -- the bytes that it holds, and those that it has not read yet

@@ -6,10 +6,10 @@ use mathlib.Core.Bool.{Bool, true, false, cond, false≢true}
 use mathlib.Core.List.{List, []}
 use lib.ListN.{length, take, drop, length-drop}
 use lib.Seq.{take-all}
-use Rattle.listing.specs.declared.Listed.{Listed}
-use Rattle.listing.specs.Pieces.{Lists, Piece, Waits}
-use Rattle.listing.specs.Steps.{Cut, Ready, Stepped}
-use Rattle.listing.specs.PieceLaws.{joined, piece-then}
+use Rattle.pieces.specs.declared.Listed.{Listed}
+use Rattle.pieces.specs.Pieces.{Lists, Piece, Waits}
+use Rattle.pieces.specs.Steps.{Cut, Ready, Stepped}
+use Rattle.pieces.specs.PieceLaws.{joined, piece-then}
 
 -- nothing follows a part that is the last
 abbrev pub Ends : Bool → List ℕ → Type 0

@@ -7,7 +7,7 @@ use lib.ListN.{length}
 use lib.Seq.{length-take-le}
 use Rattle.text.specs.Texts.{Appended}
 use Rattle.text.specs.TextLaws.{appended-within}
-use Rattle.listing.specs.Pieces.{Puts}
+use Rattle.pieces.specs.Pieces.{Puts}
 
 pub puts : {room : ℕ} {text before after : List ℕ} {end : ℕ} → room ≤ length before → Appended before 0 text end after → Puts room text before end after
 puts {room} {text} {before} {after} {end} h a =

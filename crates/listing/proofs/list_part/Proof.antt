@@ -2,8 +2,8 @@
 use mathlib.Core.Path.{_≡_, refl}
 use lib.ListN.{length}
 use borrow.Author.Tests.{not-true, not-false}
-use Rattle.listing.specs.Pieces.{Piece}
-use Rattle.listing.specs.PieceLaws.{joined, piece-none}
+use Rattle.pieces.specs.Pieces.{Piece}
+use Rattle.pieces.specs.PieceLaws.{joined, piece-none}
 use Rattle.listing.specs.PartLaws.{Ends, left, turn-piece, turn-less, stops-waiting, stops-ended}
 use borrow.Author.Needs.{needs}
 use native.Mathlib.Omega.{arith}

@@ -1,12 +1,12 @@
--- `listing::refusal_line` meets its contract. Assumes nothing.
+-- `entries::refusal_line` meets its contract. Assumes nothing.
 use borrow.Author.Tests.{eq-eqb, ne-eqb}
 use Rattle.refusals.specs.Refusals.{numberOf}
 use Rattle.text.specs.TextLaws.{decimal-length}
 use Rattle.lines.specs.LineLaws.{cut-length, refused-length}
 use borrow.Author.Needs.{needs}
 use native.Mathlib.Omega.{arith}
-use Rattle.listing.proofs.refusal_line.Statement.{statement}
-use Rattle.listing.proofs.refusal_line.Tie as tie
+use Rattle.entries.proofs.refusal_line.Statement.{statement}
+use Rattle.entries.proofs.refusal_line.Tie as tie
 
 number-requires : tie.Need-number-requires
 number-requires c κs = search needs

@@ -7,10 +7,10 @@ use mathlib.Core.List.{List, [], _∷_, _++_, append-assoc, append-nil}
 use lib.ListN.{length, take, drop, length-append, length-drop, take-append-drop}
 use lib.Seq.{take-add}
 use Rattle.lines.specs.Lines.{Entry, entry}
-use Rattle.listing.specs.declared.Listed.{Listed}
-use Rattle.listing.specs.Listing.{entriesOf, linesOf, acceptedOf}
-use Rattle.listing.specs.Pieces.{Piece, Whole, entries}
-use Rattle.listing.specs.Steps.{Cut}
+use Rattle.pieces.specs.declared.Listed.{Listed}
+use Rattle.pieces.specs.Listing.{entriesOf, linesOf, acceptedOf}
+use Rattle.pieces.specs.Pieces.{Piece, Whole, entries}
+use Rattle.pieces.specs.Steps.{Cut}
 
 -- ---- lines and counts of two lists of entries
 

@@ -1,11 +1,11 @@
--- `listing::list_found` meets its contract: each answer of the capture reader has its line. Assumes nothing.
+-- `entries::list_found` meets its contract: each answer of the capture reader has its line. Assumes nothing.
 use mathlib.Core.Path.{ap, _∙_}
 use Rattle.capture.specs.Capture.{answerOf}
-use Rattle.listing.specs.StepLaws.{found-start, found-word, record-decodable, step-none, step-refused, step-record}
+use Rattle.entries.specs.StepLaws.{found-start, found-word, record-decodable, step-none, step-refused, step-record}
 use borrow.Author.Needs.{needs}
 use native.Mathlib.Omega.{arith}
-use Rattle.listing.proofs.list_found.Statement.{statement}
-use Rattle.listing.proofs.list_found.Tie as tie
+use Rattle.entries.proofs.list_found.Statement.{statement}
+use Rattle.entries.proofs.list_found.Tie as tie
 
 find-record-requires : tie.Need-find-record-requires
 find-record-requires c κs = search needs

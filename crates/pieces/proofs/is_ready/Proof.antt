@@ -1,9 +1,9 @@
--- `listing::is_ready` meets its contract. Assumes nothing.
-use Rattle.listing.specs.StepLaws.{no-room, no-area, ready-last, ready-there}
+-- `pieces::is_ready` meets its contract. Assumes nothing.
+use Rattle.pieces.specs.ReadyLaws.{no-room, no-area, ready-last, ready-there}
 use borrow.Author.Needs.{needs}
 use native.Mathlib.Omega.{arith}
-use Rattle.listing.proofs.is_ready.Statement.{statement}
-use Rattle.listing.proofs.is_ready.Tie as tie
+use Rattle.pieces.proofs.is_ready.Statement.{statement}
+use Rattle.pieces.proofs.is_ready.Tie as tie
 
 returns : tie.Need-returns
 returns c = no-room _ _ (c .if1 .taken)

@@ -1,12 +1,12 @@
 -- What stands at the start of a part, listed: one law for each answer of the capture reader. Assumes nothing.
-use Prim.Native.Nat.{ℕ, _+_, _*_, _≤_, _<_}
+use Prim.Native.Nat.{ℕ, _*_, _≤_, _<_}
 use native.Mathlib.Decide.{decLt}
 use native.Mathlib.Omega.{arith}
 use mathlib.Core.Path.{_≡_, refl, sym, ap, _∙_}
 use mathlib.Core.Bool.{Bool, true, false, cond, false≢true}
 use mathlib.Core.List.{List, [], _∷_, _++_, append-nil}
-use lib.Dec.{eqb, leb, ltb}
-use borrow.Author.Tests.{eqb-true, leb-true, leb-false}
+use lib.Dec.{eqb, ltb}
+use borrow.Author.Tests.{eqb-true}
 use lib.ListN.{length, take}
 use lib.Seq.{take-length}
 use Rattle.words.specs.Word.{IsWord}
@@ -26,11 +26,11 @@ use Rattle.text.specs.Texts.{Appended}
 use Rattle.text.specs.TextLaws.{appended-within}
 use Rattle.records.specs.declared.Line.{Line}
 use Rattle.records.specs.Steps.{Decodable, Lined, lineIn, okIn}
-use Rattle.listing.specs.Listing.{linesOf, acceptedOf}
-use Rattle.listing.specs.Pieces.{entries}
-use Rattle.listing.specs.Steps.{Readiness, Stepped}
-use Rattle.listing.specs.EntryLaws.{start, record-of, record-entry, record-whole, entries-refused, ends-alone}
-use Rattle.listing.specs.PieceLaws.{entries-nil}
+use Rattle.pieces.specs.Listing.{linesOf, acceptedOf}
+use Rattle.pieces.specs.Pieces.{entries}
+use Rattle.pieces.specs.Steps.{Stepped}
+use Rattle.entries.specs.EntryLaws.{start, record-of, record-entry, record-whole, entries-refused, ends-alone}
+use Rattle.pieces.specs.PieceLaws.{entries-nil}
 
 -- ---- what the answer says of the part
 
@@ -88,32 +88,6 @@ module _ {part word word′ : List ℕ} {f : Found} (size : length word ≡ 8 * 
 
   pub found-word : {serial profile next : ℕ} → f ≡ found.Record serial profile next → word′ ≡ unpacked profile part
   found-word e = c .buffer ∙ ap (λ (a : capture.Answer). bufferOf a part word) (sym (c .answer) ∙ ap answerOf e)
-
--- ---- whether it can be listed
-
-module _ (part : List ℕ) (last : Bool) {room area : ℕ} where
-  pub no-room : room < 36 → Readiness part last room area false
-  no-room h = record {
-    can = λ e. absurd (false≢true e);
-    cannot = λ e. record { goes-on = λ a b. absurd (omega arith); short = λ a b. absurd (omega arith) };
-  }
-
-  pub no-area : area < 2048 → Readiness part last room area false
-  no-area h = record {
-    can = λ e. absurd (false≢true e);
-    cannot = λ e. record { goes-on = λ a b. absurd (omega arith); short = λ a b. absurd (omega arith) };
-  }
-
-  module _ (a : 36 ≤ room) (b : 2048 ≤ area) where
-    pub ready-last : last ≡ true → Readiness part last room area true
-    ready-last e = record { can = λ z. record { line = a; lent = b; there = λ f. absurd (false≢true (sym f ∙ e)) }; cannot = λ z. absurd (false≢true (sym z)) }
-
-    -- the input goes on: the record has to be there
-    pub ready-there : last ≡ false → bodyLength part ≤ 32 → Readiness part last room area (leb (5 + bodyLength part) (length part))
-    ready-there e few = record {
-      can = λ z. record { line = a; lent = b; there = λ f. leb-true _ _ z };
-      cannot = λ z. let l : length part < 5 + bodyLength part = leb-false _ _ z in record { goes-on = λ x y. e; short = λ x y. omega arith };
-    }
 
 -- ---- a record's word
 

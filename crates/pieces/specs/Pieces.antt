@@ -5,8 +5,8 @@ use mathlib.Core.Bool.{Bool, true, false}
 use mathlib.Core.List.{List, [], _++_}
 use lib.ListN.{length, take, drop}
 use Rattle.lines.specs.Lines.{Entry}
-use Rattle.listing.specs.declared.Listed.{Listed}
-use Rattle.listing.specs.Listing.{entriesOf, linesOf, acceptedOf}
+use Rattle.pieces.specs.declared.Listed.{Listed}
+use Rattle.pieces.specs.Listing.{entriesOf, linesOf, acceptedOf}
 
 -- the entries of what stands in s, from its start to its end
 abbrev pub entries : List ℕ → List Entry

@@ -1,4 +1,4 @@
--- `listing::move_down` meets its contract: a byte is read before it is written over. Assumes nothing.
+-- `pieces::move_down` meets its contract: a byte is read before it is written over. Assumes nothing.
 use Prim.Native.Nat.{ℕ, _+_, _-_, _≤_}
 use native.Mathlib.Nat.{zero-add}
 use mathlib.Core.Path.{_≡_, refl, sym, _∙_}
@@ -12,8 +12,8 @@ use Rattle.words.specs.Written.{Written, written-none, written-more, written-to
 use Rattle.text.specs.TextLaws.{a-run}
 use borrow.Author.Needs.{needs}
 use native.Mathlib.Omega.{arith}
-use Rattle.listing.proofs.move_down.Statement.{statement}
-use Rattle.listing.proofs.move_down.Tie as tie
+use Rattle.pieces.proofs.move_down.Statement.{statement}
+use Rattle.pieces.proofs.move_down.Tie as tie
 
 -- the bytes from `from` on
 tail : (s : List ℕ) (from n : ℕ) → n ≡ length s - from → tabulate n (λ p. bit s (from + p)) ≡ drop from s

@@ -5,8 +5,8 @@ use mathlib.Core.Bool.{Bool, true, false}
 use mathlib.Core.List.{List, []}
 use lib.ListN.{length}
 use Rattle.capture.specs.Body.{bodyLength}
-use Rattle.listing.specs.declared.Listed.{Listed}
-use Rattle.listing.specs.Pieces.{Piece, Waits}
+use Rattle.pieces.specs.declared.Listed.{Listed}
+use Rattle.pieces.specs.Pieces.{Piece, Waits}
 
 -- ---- what stands at the start of a part
 

@@ -17,9 +17,9 @@ use Rattle.capture.specs.Capture.{profileAt, recordIn, recordSize, serialOf, un
 use Rattle.capture.specs.Body.{bodyLength}
 use Rattle.capture.specs.Cases.{Sized, sized, known-body, unknown, whole}
 use Rattle.lines.specs.Lines.{cutLine, refusedLine, Entry, entry, recordEntry}
-use Rattle.listing.specs.Listing.{entriesFor, entriesOf}
-use Rattle.listing.specs.Pieces.{Whole, entries}
-use Rattle.listing.specs.Steps.{Cut}
+use Rattle.pieces.specs.Listing.{entriesFor, entriesOf}
+use Rattle.pieces.specs.Pieces.{Whole, entries}
+use Rattle.pieces.specs.Steps.{Cut}
 
 -- ---- a record at the start of s
 
