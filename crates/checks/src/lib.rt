@@ -40,7 +40,7 @@ pub fn buffers(m: usize, word: &[u8], room: usize, area: usize) -> Answer
     if area < 8 * n {
         return Answer::Refused(Refusal::AreaLength);
     }
-    refusals::check_bytes(word)
+    code_checks::check_bytes(word)
 }
 
 // 1 to 8.
@@ -55,7 +55,7 @@ pub fn call(
 ) -> Answer
     ensures { λ a. ⌜ Checked (codeChecks m r ++ limitChecks rounds leaves ++ bufferChecks m (now (word .entry)) room area) (now (word .entry)) a ⌝ }
 {
-    let code = refusals::check_code(m, r);
+    let code = code_checks::check_code(m, r);
     if let Answer::Refused(why) = code {
         return Answer::Refused(why);
     }

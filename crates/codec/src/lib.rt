@@ -35,14 +35,14 @@ fn check_buffers(s: &[u8], n: usize, room: usize, k: usize) -> Answer
     if room != k {
         return Answer::Refused(Refusal::OutputLength);
     }
-    refusals::check_bytes(s)
+    code_checks::check_bytes(s)
 }
 
 // The refusals of the encoder, with an output of `room` bytes.
 fn check_message(m: usize, r: usize, message: &[u8], room: usize) -> Answer
     ensures { λ a. ⌜ Checked (encodeChecks m r (now (message .entry)) room) (now (message .entry)) a ⌝ }
 {
-    let code = refusals::check_code(m, r);
+    let code = code_checks::check_code(m, r);
     if let Answer::Refused(why) = code {
         return Answer::Refused(why);
     }
@@ -54,7 +54,7 @@ fn check_message(m: usize, r: usize, message: &[u8], room: usize) -> Answer
 fn check_codeword(m: usize, r: usize, word: &[u8], room: usize) -> Answer
     ensures { λ a. ⌜ Checked (wordChecks m r (now (word .entry)) room) (now (word .entry)) a ⌝ }
 {
-    let code = refusals::check_code(m, r);
+    let code = code_checks::check_code(m, r);
     if let Answer::Refused(why) = code {
         return Answer::Refused(why);
     }
@@ -66,14 +66,14 @@ fn check_codeword(m: usize, r: usize, word: &[u8], room: usize) -> Answer
 fn check_word(m: usize, r: usize, word: &[u8]) -> Answer
     ensures { λ a. ⌜ Checked (testChecks m r (now (word .entry))) (now (word .entry)) a ⌝ }
 {
-    let code = refusals::check_code(m, r);
+    let code = code_checks::check_code(m, r);
     if let Answer::Refused(why) = code {
         return Answer::Refused(why);
     }
     if word.len() != words::size(m) {
         return Answer::Refused(Refusal::InputLength);
     }
-    refusals::check_bytes(word)
+    code_checks::check_bytes(word)
 }
 
 // The codeword of a message.

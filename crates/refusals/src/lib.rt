@@ -1,7 +1,6 @@
-// What calls answer, why they are refused, and the checks that come before any work.
+// What calls answer, and why they are refused.
 ghost use mathlib.Core.Path.{_≡_};
-ghost use mathlib.Core.List.{[]};
-ghost use Rattle.refusals.specs.Refusals.{numberOf, placeOf, Checked, codeChecks, byteChecks};
+ghost use Rattle.refusals.specs.Refusals.{numberOf, placeOf};
 
 // Document 01, "Refusals by who causes them", in the order of their numbers.
 pub enum Refusal {
@@ -82,31 +81,4 @@ pub fn place(why: Refusal) -> usize
         Refusal::Header => 0,
         Refusal::Truncated => 0,
     }
-}
-
-// 1 and 2: the exponent and the order.
-pub fn check_code(m: usize, r: usize) -> Answer
-    ensures { λ a. ⌜ Checked (codeChecks m r) [] a ⌝ }
-{
-    if m < 1 {
-        return Answer::Refused(Refusal::Exponent);
-    }
-    if 10 < m {
-        return Answer::Refused(Refusal::Exponent);
-    }
-    if m < r {
-        return Answer::Refused(Refusal::Order);
-    }
-    Answer::Done
-}
-
-// 8: a byte above 1.
-pub fn check_bytes(s: &[u8]) -> Answer
-    ensures { λ a. ⌜ Checked (byteChecks (now (s .entry))) (now (s .entry)) a ⌝ }
-{
-    let place = words::bad_place(s);
-    if place < s.len() {
-        return Answer::Refused(Refusal::BadByte(place));
-    }
-    Answer::Done
 }

@@ -1,8 +1,8 @@
--- `refusals::check_bytes` meets its contract. Assumes nothing.
+-- `code_checks::check_bytes` meets its contract. Assumes nothing.
 use borrow.Author.Needs.{needs}
 use Rattle.refusals.specs.CheckLaws.{bytes-fail, bytes-pass, all-pass, named-place}
-use Rattle.refusals.proofs.check_bytes.Statement.{statement}
-use Rattle.refusals.proofs.check_bytes.Tie as tie
+use Rattle.code_checks.proofs.check_bytes.Statement.{statement}
+use Rattle.code_checks.proofs.check_bytes.Tie as tie
 
 bad-place-requires : tie.Need-bad-place-requires
 bad-place-requires c κs = search needs

@@ -1,10 +1,10 @@
--- `refusals::check_code` meets its contract. Assumes nothing.
+-- `code_checks::check_code` meets its contract. Assumes nothing.
 use native.Mathlib.Omega.{arith}
 use borrow.Author.Tests.{le-leb}
 use Rattle.refusals.specs.declared.Refusal.the-variants.{Exponent, Order}
 use Rattle.refusals.specs.CheckLaws.{exponent-low, exponent-high, order-high, passes, no-more, refuses, all-pass}
-use Rattle.refusals.proofs.check_code.Statement.{statement}
-use Rattle.refusals.proofs.check_code.Tie as tie
+use Rattle.code_checks.proofs.check_code.Statement.{statement}
+use Rattle.code_checks.proofs.check_code.Tie as tie
 
 returns : tie.Need-returns
 returns c = refuses Exponent (λ e. omega arith) (exponent-low (c .before .args .m) (c .before .args .r) (omega arith))
