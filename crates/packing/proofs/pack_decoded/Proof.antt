@@ -1,10 +1,10 @@
--- `harness::pack_decoded` meets its contract. Assumes nothing.
+-- `packing::pack_decoded` meets its contract. Assumes nothing.
 use Prim.Native.Nat.{ℕ}
 use mathlib.Core.Path.{sym, ap, ap₂, _∙_}
-use Rattle.harness.specs.Packing.{pack, packDecoded}
+use Rattle.packing.specs.Packing.{pack, packDecoded}
 use borrow.Author.Needs.{needs}
-use Rattle.harness.proofs.pack_decoded.Statement.{statement}
-use Rattle.harness.proofs.pack_decoded.Tie as tie
+use Rattle.packing.proofs.pack_decoded.Statement.{statement}
+use Rattle.packing.proofs.pack_decoded.Tie as tie
 
 enum-known-answer : tie.Need-enum-known-answer
 enum-known-answer c = search needs
