@@ -30,7 +30,7 @@ use Rattle.rule.specs.DecodingLaws.{after-cases, buffers-passed, limited-within
 use Rattle.rule.specs.ProfileLaws.{profile-code, profile-passes}
 use Rattle.rule.specs.Calls.{Decodes, valuesOf}
 use Rattle.rule.specs.Counts.{leaf-most, reading-leaf, reading-noise}
-use Rattle.leaves.specs.Leaves.{Holds, Read}
+use Rattle.told.specs.Told.{Holds, Read}
 use Rattle.direct.specs.Direct.{Readable, Gives}
 use Rattle.readings.specs.Readings.{Ready}
 use Rattle.decoder.specs.Runs.{Deliverable, delivered, Runs}

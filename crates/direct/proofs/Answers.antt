@@ -21,7 +21,7 @@ use Rattle.blocks.specs.Blocks.{quadAt, Block}
 use Rattle.refusals.specs.declared.Refusal.the-variants.{Tie}
 use Rattle.refusals.specs.declared.Decoded.the-variants.{Accepted, Refused}
 use Rattle.rule.specs.Reading.{order1}
-use Rattle.leaves.specs.OrderOne.{PeakOf, nearest, order1-tie, order1-nearest, whole-nearest, constant-bit}
+use Rattle.order_one.specs.OrderOne.{PeakOf, nearest, order1-tie, order1-nearest, whole-nearest, constant-bit}
 use Rattle.direct.specs.Direct.{valueAt, Sought, Readable, Gives}
 use Rattle.direct.specs.BlockPeak.{BlockQuads, block-sought, block-peak}
 

@@ -19,7 +19,7 @@ use Rattle.peaks.specs.SamePeak.{peak-ext}
 use Rattle.quads.specs.QuadLaws.{correlation-quad, Numbers, numbers}
 use Rattle.keys.specs.Keys.{Bounded}
 use Rattle.blocks.specs.Blocks.{quadAt}
-use Rattle.leaves.specs.OrderOne.{PeakOf}
+use Rattle.order_one.specs.OrderOne.{PeakOf}
 use Rattle.hadamard.specs.LowDigits.{byDigits, correlation-digits}
 use Rattle.hadamard.specs.Spread.{correlations-spread}
 use Rattle.direct.specs.Direct.{valueAt, Sought}

@@ -1,8 +1,8 @@
 // How a round ends: the flips, and the answer for a word that no round changes.
-use leaves::Told;
-use leaves::changed;
 use refusals::Decoded;
 use refusals::Refusal;
+use told::Told;
+use told::changed;
 ghost use mathlib.Core.Bool.{true, cond};
 ghost use mathlib.Core.Path.{_≡_};
 ghost use Prim.Native.Nat.{ℕ, _+_, _*_, _%_, _^_, _≤_, _<_};

@@ -1,4 +1,2 @@
--- What the proofs of several functions use.
-mod WordPart
-mod OrderZero
-mod OrderOne
+-- What the proof of the reading uses.
+mod Limits

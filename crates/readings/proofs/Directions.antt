@@ -29,8 +29,8 @@ use Rattle.rule.specs.Decoding.{limited, answerOf}
 use Rattle.rule.specs.DecodingLaws.{limited-within}
 use Rattle.rule.specs.Calls.{valuesOf}
 use Rattle.rule.specs.Counts.{reading-noise}
-use Rattle.leaves.specs.Leaves.{Holds, Read, Kept}
-use Rattle.leaves.specs.declared.Told.{Told}
+use Rattle.told.specs.Told.{Holds, Read, Kept}
+use Rattle.told.specs.declared.Told.{Told}
 use Rattle.steps.specs.Steps.{countIn, voteOf, Voter, Unmoved}
 use Rattle.steps.specs.declared.Count.{Count}
 use Rattle.steps.specs.declared.Count.the-variants.{Done, Exhausted}

@@ -5,20 +5,17 @@ use mathlib.Core.Path.{_≡_, refl, sym, _∙_}
 use mathlib.Core.Bool.{Bool, true, false, cond}
 use mathlib.Core.List.{List}
 use lib.Dec.{ltb}
-use lib.IntN.{ℤ}
 use borrow.Author.Tests.{ltb-true, ltb-false, ne-eqb}
 use Rattle.refusals.specs.CheckLaws.{number-pos}
 use Rattle.refusals.specs.Refusals.{numberOf}
 use Rattle.refusals.specs.declared.Refusal.{Refusal}
-use Rattle.refusals.specs.declared.Refusal.the-variants.{TooManyLeaves}
 use Rattle.refusals.specs.declared.Decoded.{Decoded}
 use Rattle.refusals.specs.declared.Decoded.the-variants.{Accepted, Refused}
 use Rattle.rule.specs.Reading.{Outcome, accepted, refused, leavesOf}
 use Rattle.rule.specs.Decoding.{limited, answerOf}
-use Rattle.rule.specs.DecodingLaws.{limited-above, limited-within, limited-cases}
+use Rattle.rule.specs.DecodingLaws.{limited-cases}
 use Rattle.rule.specs.Calls.{valuesOf}
 use Rattle.rule.specs.Counts.{Noise}
-use Rattle.leaves.specs.Leaves.{Holds, Read}
 use Rattle.steps.specs.Steps.{countIn}
 use Rattle.steps.specs.declared.Count.{Count}
 use Rattle.steps.specs.declared.Count.the-variants.{Done, Exhausted}
@@ -47,15 +44,6 @@ by-answer P one two (Accepted k l) (accepted d i j) h e = one d k l i j
 by-answer P one two (Accepted k l) (refused n i j) h e = let z : 0 ≡ n = cc in absurd (omega arith)
 by-answer P one two (Refused why k l) (accepted d i j) h e = let z : numberOf why ≡ 0 = cc in absurd (omega (arith, number-pos why))
 by-answer P one two (Refused why k l) (refused n i j) h e = two why n k l i j
-
--- ---- what a reading says
-
-module _ {n left : ℕ} (ys : List ℤ) (o : Outcome) where
-  pub read-within : {a : Decoded} → leavesOf o ≤ left → valuesOf a ≡ answerOf o → Holds n o ys → Read n (limited left o) ys a
-  read-within h e w = rw (limited-within left o h) (record { said = e; word = w })
-
-  pub read-above : left < leavesOf o → Read n (limited left o) ys (Refused TooManyLeaves 0 left)
-  read-above h = rw (limited-above left o h) (record { said = refl; word = tt })
 
 -- ---- counts
 

@@ -3,21 +3,20 @@
 // lent to the readings one order lower.
 use flips::flip;
 use flips::settle;
-use leaves::Told;
-use leaves::changed;
-use leaves::first_order;
-use leaves::zero_order;
+use leaves::leaf;
 use refusals::Decoded;
 use refusals::Refusal;
 use steps::Count;
 use steps::cast;
+use told::Told;
+use told::changed;
 ghost use mathlib.Core.Path.{_≡_};
 ghost use Prim.Native.Nat.{ℕ, suc, _+_, _*_, _^_, _≤_, _<_};
 ghost use lib.ListN.{length};
 ghost use Rattle.area.specs.Area.{wordOf};
 ghost use Rattle.rule.specs.Reading;
 ghost use Rattle.rule.specs.Decoding.{limited};
-ghost use Rattle.leaves.specs.Leaves.{Read, Kept};
+ghost use Rattle.told.specs.Told.{Read, Kept};
 ghost use Rattle.readings.specs.Readings.{Ready, Voted};
 
 // The reading of the word in the front of the area, with at most `left` leaves.
@@ -26,14 +25,8 @@ pub fn reading(m: usize, r: usize, rounds: usize, left: usize, area: &mut [i32])
     ensures read { λ t. ⌜ Read (2 ^ m) (limited left (Rattle.rule.specs.Reading.reading r m rounds (wordOf (2 ^ m) (now (area .entry))))) (now (area .exit)) (t .answer) ⌝ }
     ensures kept { λ t. ⌜ Kept (2 ^ m) (now (area .entry)) (now (area .exit)) t ⌝ }
 {
-    if r == 0 {
-        return zero_order(m, area);
-    }
-    if r == 1 {
-        if left == 0 {
-            return changed(Decoded::Refused(Refusal::TooManyLeaves, 0, left));
-        }
-        return first_order(m, area);
+    if r < 2 {
+        return leaf(m, r, left, area);
     }
     let n = words::size(m);
     let mut k = 0;

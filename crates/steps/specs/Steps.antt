@@ -9,7 +9,7 @@ use Rattle.refusals.specs.declared.Decoded.{Decoded}
 use Rattle.refusals.specs.declared.Decoded.the-variants.{Accepted, Refused}
 use Rattle.cosets.specs.Votes.{InProjection, castVote}
 use Rattle.rule.specs.Decoding.{Values, values}
-use Rattle.leaves.specs.declared.Told.{Told}
+use Rattle.told.specs.declared.Told.{Told}
 use Rattle.steps.specs.declared.Count.{Count}
 use Rattle.steps.specs.declared.Count.the-variants.{Done, Exhausted}
 

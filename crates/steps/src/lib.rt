@@ -1,7 +1,7 @@
 // What a direction's answer does to the votes.
-use leaves::Told;
 use refusals::Decoded;
 use refusals::Refusal;
+use told::Told;
 ghost use mathlib.Core.Path.{_≡_};
 ghost use Prim.Native.Nat.{ℕ, suc, _+_, _^_};
 ghost use lib.IntN.{pos, _+ℤ_};

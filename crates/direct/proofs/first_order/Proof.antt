@@ -5,7 +5,7 @@ use native.Mathlib.Omega.{arith}
 use borrow.Author.Needs.{needs}
 use borrow.Author.Tests.{not-true, not-false}
 use lib.Pow.{pow-mono}
-use Rattle.leaves.specs.OrderOne.{PeakOf}
+use Rattle.order_one.specs.OrderOne.{PeakOf}
 use Rattle.direct.proofs.Answers.{as-block, quads-sought, quads-peak, peak-writes, tie-gives, whole-gives, written-gives}
 use Rattle.direct.proofs.first_order.Statement.{statement}
 use Rattle.direct.proofs.first_order.Tie as tie

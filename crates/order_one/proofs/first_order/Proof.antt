@@ -1,12 +1,12 @@
--- `leaves::first_order` meets its contract: the reading in the word's part of the area. Assumes nothing.
+-- `order_one::first_order` meets its contract: the reading in the word's part of the area. Assumes nothing.
 use Prim.Native.Nat.{_+_, _-_, _*_, _^_, _≤_}
 use mathlib.Core.Path.{_≡_, _∙_}
 use native.Mathlib.Omega.{arith}
 use borrow.Author.Needs.{needs}
 use lib.ListN.{length}
-use Rattle.leaves.proofs.WordPart.{lent-size, lent-bits, lent-word, read-back, kept-back}
-use Rattle.leaves.proofs.first_order.Statement.{statement}
-use Rattle.leaves.proofs.first_order.Tie as tie
+use Rattle.told.specs.WordPart.{lent-size, lent-bits, lent-word, read-back, kept-back}
+use Rattle.order_one.proofs.first_order.Statement.{statement}
+use Rattle.order_one.proofs.first_order.Tie as tie
 
 -- the part's length, as the code has it
 part-is : (c : tie.After-size) → c .size .result + c .size .result - 0 ≡ 2 * 2 ^ c .before .args .m

@@ -18,7 +18,7 @@ use Rattle.hadamard.specs.AffineWords.{bit-affine}
 use Rattle.hadamard.specs.CorrelationLaws.{correlation-zero, near-distance, far-distance}
 use Rattle.refusals.specs.declared.Refusal.the-variants.{Tie}
 use Rattle.rule.specs.Reading.{accepted, refused, constant, bySum, order0}
-use Rattle.leaves.specs.Leaves.{Read}
+use Rattle.told.specs.Told.{Read}
 use Rattle.refusals.specs.declared.Decoded.the-variants.{Accepted, Refused}
 
 -- n less x

@@ -1,4 +1,4 @@
--- `leaves::count_ones` meets its contract: the loop counts the ones so far. Assumes nothing.
+-- `order_zero::count_ones` meets its contract: the loop counts the ones so far. Assumes nothing.
 use Prim.Native.Nat.{ℕ, _+_, _-_, _≤_, _<_}
 use mathlib.Core.Path.{_≡_, refl, ap, _∙_}
 use mathlib.Core.Logic.{⊎-elim}
@@ -12,8 +12,8 @@ use Rattle.words.specs.Sum.{total, sumBelow}
 use Rattle.words.specs.Word.{bit}
 use Rattle.area.specs.Area.{at, IsBit, zero-bit, one-bit, wordOf}
 use Rattle.area.specs.AreaLaws.{bit-wordOf}
-use Rattle.leaves.proofs.count_ones.Statement.{statement}
-use Rattle.leaves.proofs.count_ones.Tie as tie
+use Rattle.order_zero.proofs.count_ones.Statement.{statement}
+use Rattle.order_zero.proofs.count_ones.Tie as tie
 
 -- a bit against 0, as the code tests it
 bit-some : {z : ℤ} → IsBit z → (ofZ w32 z ≡ 0 → ⊥) → natAbs z ≡ 1

@@ -10,8 +10,8 @@ use Rattle.words.specs.Parts.{part-length, part-at, back-length, back-within}
 use Rattle.area.specs.Area.{at, Bits, SameFront, wordOf}
 use Rattle.area.specs.AreaLaws.{wordOf-same}
 use Rattle.rule.specs.Reading.{Outcome, accepted, refused}
-use Rattle.leaves.specs.Leaves.{Holds, Read, Kept}
-use Rattle.leaves.specs.declared.Told.{Told}
+use Rattle.told.specs.Told.{Holds, Read, Kept}
+use Rattle.told.specs.declared.Told.{Told}
 use Rattle.refusals.specs.declared.Decoded.{Decoded}
 
 -- the first k numbers, of which the first n are the word

@@ -22,9 +22,9 @@ use Rattle.peaks.specs.Peaks.{IsPeak}
 use Rattle.refusals.specs.declared.Refusal.the-variants.{Tie}
 use Rattle.refusals.specs.declared.Decoded.the-variants.{Accepted, Refused}
 use Rattle.rule.specs.Reading.{order1}
-use Rattle.leaves.specs.Leaves.{Read}
-use Rattle.leaves.specs.OrderOne.{PeakOf, nearest, order1-tie, order1-nearest, whole-nearest, constant-bit}
-use Rattle.leaves.proofs.WordPart.{lent-size}
+use Rattle.told.specs.Told.{Read}
+use Rattle.order_one.specs.OrderOne.{PeakOf, nearest, order1-tie, order1-nearest, whole-nearest, constant-bit}
+use Rattle.told.specs.WordPart.{lent-size}
 
 -- p is the peak of the word in the front of xs
 pub record Peaked (m : ℕ) (xs : List ℤ) (p : Peak) : Type 0 where

@@ -1,4 +1,4 @@
--- `leaves::zero_order` meets its contract. Assumes nothing.
+-- `order_zero::zero_order` meets its contract. Assumes nothing.
 use Prim.Native.Nat.{ℕ, _-_, _^_, _≤_}
 use mathlib.Core.Path.{_≡_, sym, _∙_, subst}
 use native.Mathlib.Omega.{arith}
@@ -9,11 +9,11 @@ use Rattle.words.specs.Sum.{sumBelow}
 use Rattle.words.specs.Word.{bit}
 use Rattle.area.specs.Area.{Bits, wordOf}
 use Rattle.area.specs.AreaLaws.{wordOf-word}
-use Rattle.leaves.specs.LeafLaws.{changed-tells}
-use Rattle.leaves.proofs.WordPart.{lent-size, read-back}
-use Rattle.leaves.proofs.OrderZero.{zero-tie, zero-zeros, zero-ones}
-use Rattle.leaves.proofs.zero_order.Statement.{statement}
-use Rattle.leaves.proofs.zero_order.Tie as tie
+use Rattle.told.specs.ToldLaws.{changed-tells}
+use Rattle.told.specs.WordPart.{lent-size, read-back}
+use Rattle.order_zero.proofs.OrderZero.{zero-tie, zero-zeros, zero-ones}
+use Rattle.order_zero.proofs.zero_order.Statement.{statement}
+use Rattle.order_zero.proofs.zero_order.Tie as tie
 
 size-is : (c : tie.After-size) → c .size .result - 0 ≡ 2 ^ c .before .args .m
 size-is c = omega (arith, c .size .ensures)

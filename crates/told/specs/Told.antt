@@ -9,7 +9,7 @@ use Rattle.refusals.specs.declared.Decoded.{Decoded}
 use Rattle.rule.specs.Reading.{Outcome, accepted, refused}
 use Rattle.rule.specs.Decoding.{answerOf}
 use Rattle.rule.specs.Calls.{valuesOf}
-use Rattle.leaves.specs.declared.Told.{Told}
+use Rattle.told.specs.declared.Told.{Told}
 
 -- the decoded word stands in the first n numbers, where there is one
 abbrev pub Holds : ℕ → Outcome → List ℤ → Type 0

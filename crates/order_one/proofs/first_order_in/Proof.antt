@@ -1,4 +1,4 @@
--- `leaves::first_order_in` meets its contract: the word's peak decides. Assumes nothing.
+-- `order_one::first_order_in` meets its contract: the word's peak decides. Assumes nothing.
 use Prim.Native.Nat.{_-_}
 use native.Mathlib.Omega.{arith}
 use lib.Pow.{pow-mono}
@@ -6,11 +6,11 @@ use borrow.Author.Needs.{needs}
 use borrow.Author.Tests.{not-true, not-false}
 use Rattle.area.specs.AreaLaws.{bit-back}
 use Rattle.peaks.specs.Found.{peak-below}
-use Rattle.leaves.specs.LeafLaws.{changed-tells}
-use Rattle.leaves.specs.OrderOne.{constant-bit}
-use Rattle.leaves.proofs.OrderOne.{Peaked, peak-of, tie-read, whole-read, written-read}
-use Rattle.leaves.proofs.first_order_in.Statement.{statement}
-use Rattle.leaves.proofs.first_order_in.Tie as tie
+use Rattle.told.specs.ToldLaws.{changed-tells}
+use Rattle.order_one.specs.OrderOne.{constant-bit}
+use Rattle.order_one.proofs.OrderOne.{Peaked, peak-of, tie-read, whole-read, written-read}
+use Rattle.order_one.proofs.first_order_in.Statement.{statement}
+use Rattle.order_one.proofs.first_order_in.Tie as tie
 
 peaked : (c : tie.After-find-peak) → let a = c .before .before .before .args in Peaked (a .m) (a .part .now) (c .find-peak .result)
 peaked c = record { bits = c .before .before .before .pre .3; peak = c .find-peak .ensures .0 }

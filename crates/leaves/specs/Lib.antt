@@ -1,4 +1,0 @@
--- What the functions ask and promise: Leaves. The rest are laws.
-pub mod Leaves
-pub mod LeafLaws
-pub mod OrderOne

@@ -1,0 +1,2 @@
+-- Laws: OrderOne.
+pub mod OrderOne
