@@ -1,5 +1,5 @@
 -- The votes of a block of 4 cosets, added at both members. Assumes nothing.
-use Prim.Native.Nat.{ℕ, _+_, _-_, _*_, _<_, _≤_}
+use Prim.Native.Nat.{ℕ, _+_, _-_, _*_, _^_, _<_, _≤_}
 use mathlib.Core.Path.{_≡_, sym, ap, ap₂, _∙_}
 use mathlib.Core.List.{List}
 use mathlib.Core.Logic.{_≢_, ⊎-elim}
@@ -9,12 +9,15 @@ use native.Mathlib.Omega.{arith}
 use lib.Bits.{bitXor, xor-zero-r}
 use lib.ListN.{length}
 use lib.IntN.{ℤ, pos, _+ℤ_}
+use mir.Syntax.{w64}
+use mir.Val.{Fits}
 use borrow.Rule.Slice.PartMut.{putMid}
 use Rattle.words.specs.Written.{Written, written-none, written-to}
 use Rattle.words.specs.Parts.{written-part}
 use Rattle.area.specs.Area.{at, IsBit}
 use Rattle.area.specs.AreaLaws.{bit-back}
 use Rattle.area.specs.Numbers.{stored, Half}
+use Rattle.area.specs.Places.{Places, index-fits, places}
 use Rattle.projections.specs.Fours.{bitSum, pairSum}
 use Rattle.votes.specs.FourVotes.{addend, Addends, FourVotes, fourVote, FourVoted}
 use Rattle.projections.specs.FourLaws.{by-four, four-lt}
@@ -42,6 +45,16 @@ outside {a} {n} w j k = elim (decLt j a) [
   ]
 ]
 
+-- the places that the code takes
+pub record Rooms (n q p z len : ℕ) : Type 0 where
+  pub four : Fits w64 (4 * n)
+  pub twice : Fits w64 (2 * n)
+  pub decoded : Places (4 * n + q) 4 len
+  pub place : Places p 4 len
+  pub partner : Places z 4 len
+  pub one : Places (2 * n + p) 4 len
+  pub two : Places (2 * n + z) 4 len
+
 -- what the code has for the vote of coset q + i
 abbrev pub Vote : ℕ → ℕ → ℕ → ℕ → ℕ → List ℤ → ℕ → ℤ → Type 0
 Vote n q p z l xs i x = x ≡ bitSum (at (four (4 * n + q) xs) i) (bitSum (at (four p xs) i) (at (four z xs) (bitXor i l)))
@@ -52,6 +65,17 @@ pub record Casts (n q p z l : ℕ) (xs : List ℤ) (a b c d : ℤ) : Type 0 wher
   pub votes : (i : ℕ) → i < 4 → addend a b c d i ≡ fourVote n q p z l xs i
 
 module _ {n q p z l : ℕ} {xs : List ℤ} (asks : FourVotes n q p z l xs) where
+  pub vote-rooms : length xs * 4 < 2 ^ 63 → Rooms n q p z (length xs)
+  vote-rooms small = record {
+    four = index-fits small (omega (arith, asks .bits .room));
+    twice = index-fits small (omega (arith, asks .room-one));
+    decoded = places small (asks .bits .room);
+    place = places small (asks .bits .place);
+    partner = places small (asks .bits .partner);
+    one = places small (asks .room-one);
+    two = places small (asks .room-two);
+  }
+
   pub decoded-lt : (i : ℕ) → i < 4 → (i < length (four (4 * n + q) xs)) × IsBit (at (four (4 * n + q) xs) i)
   decoded-lt i hi = (
     omega (arith, four-length (4 * n + q) xs (asks .bits .room)),
@@ -90,7 +114,7 @@ module _ {n q p z l : ℕ} {xs : List ℤ} {a b c d : ℤ} (t : Casts n q p z l 
     first : Written (pos 0) (2 * n + p) 4 (λ j. at xs (2 * n + p + j) +ℤ addend a b c d (bitXor j 0)) xs between
     first = part-added (2 * n + p) 0 xs part (addend a b c d) (t .asks .room-one) one
 
-    room-two : 2 * n + z + 4 ≤ length between
+    pub room-two : 2 * n + z + 4 ≤ length between
     room-two = omega (arith, first .long, t .asks .room-two)
 
     kept : (i : ℕ) → i < 4 → at between (2 * n + z + i) ≡ at xs (2 * n + z + i)
