@@ -11,10 +11,9 @@ pub record Place (x n : ℕ) : Type 0 where
   pub bytes : Fits w64 (x * 4)
   pub below : x < n
 
--- the k places from a on
+-- the k places from a on, one at least
 pub record Places (a k n : ℕ) : Type 0 where
-  pub first : Fits w64 a
-  pub bytes : Fits w64 (a * 4)
+  pub start : Place a n
   pub end : Fits w64 (a + k)
   pub ordered : a ≤ a + k
   pub within : a + k ≤ n
@@ -27,10 +26,9 @@ module _ {n : ℕ} (small : n * 4 < 2 ^ 63) where
   pub place : {x : ℕ} → x < n → Place x n
   place l = record { index = record { fits = omega arith }; bytes = record { fits = omega arith }; below = l }
 
-  pub places : {a k : ℕ} → a + k ≤ n → Places a k n
-  places {a} {k} l = record {
-    first = record { fits = omega arith };
-    bytes = record { fits = omega arith };
+  pub places : {a k : ℕ} → T (ltb 0 k) → a + k ≤ n → Places a k n
+  places {a} {k} some l = record {
+    start = place (omega (arith, lit< {m = 0} {n = k} some));
     end = record { fits = omega arith };
     ordered = omega arith;
     within = l;

@@ -5,6 +5,7 @@ use mathlib.Core.Logic.{⊎-elim}
 use mathlib.Core.List.{List, _++_, append-nil}
 use native.Mathlib.Nat.{add-zero, mul-le-mul-right}
 use native.Mathlib.Omega.{arith}
+use lib.Dec.{T, ltb, lit<}
 use lib.IntN.{ℤ, pos, natAbs}
 use lib.ListN.{length, take, drop, set, drop-of-length-le, List·getD-eq-default}
 use lib.Pow.{pow-mono}
@@ -21,6 +22,7 @@ use Rattle.words.specs.Written.{Written, written-eight}
 use Rattle.words.specs.Word.{bit}
 use Rattle.area.specs.Area.{at}
 use Rattle.area.specs.Numbers.{stored, stored-eq}
+use Rattle.area.specs.Places.{Places, places}
 use Rattle.hadamard.specs.Begun.{EightsDone}
 use Rattle.hadamard.specs.Correlation.{correlation}
 use Rattle.hadamard.specs.CorrelationLaws.{correlation-ext}
@@ -50,6 +52,19 @@ small-summable k f l small = record {
 }
 
 -- ---- eight quads from place i on
+
+-- the places that the code takes, of w bytes and n numbers
+pub record Rooms (w i n : ℕ) : Type 0 where
+  pub first : 4 * i + 4 ≤ w
+  pub word : (j : ℕ) → T (ltb j 8) → 4 * (i + j) + 4 ≤ w
+  pub area : Places i 8 n
+
+pub load-rooms : {w i n : ℕ} → 4 * i + 32 ≤ w → i + 8 ≤ n → n * 4 < 2 ^ 63 → Rooms w i n
+load-rooms many room small = record {
+  first = omega arith;
+  word = λ j t. omega (arith, lit< {m = j} {n = 8} t);
+  area = places small tt room;
+}
 
 abbrev eightAt : List ℕ → ℕ → ℕ → ℤ
 eightAt w i k = quadAt w (i + k)

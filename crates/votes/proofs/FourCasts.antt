@@ -69,11 +69,11 @@ module _ {n q p z l : ℕ} {xs : List ℤ} (asks : FourVotes n q p z l xs) where
   vote-rooms small = record {
     four = index-fits small (omega (arith, asks .bits .room));
     twice = index-fits small (omega (arith, asks .room-one));
-    decoded = places small (asks .bits .room);
-    place = places small (asks .bits .place);
-    partner = places small (asks .bits .partner);
-    one = places small (asks .room-one);
-    two = places small (asks .room-two);
+    decoded = places small tt (asks .bits .room);
+    place = places small tt (asks .bits .place);
+    partner = places small tt (asks .bits .partner);
+    one = places small tt (asks .room-one);
+    two = places small tt (asks .room-two);
   }
 
   pub decoded-lt : (i : ℕ) → i < 4 → (i < length (four (4 * n + q) xs)) × IsBit (at (four (4 * n + q) xs) i)

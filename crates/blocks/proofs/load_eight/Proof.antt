@@ -1,142 +1,143 @@
 -- `blocks::load_eight` meets its contract: all eight quads are made before the first is written. Assumes nothing.
 use mathlib.Core.Path.{ap, _∙_}
-use native.Mathlib.Omega.{arith}
 use lib.ListN.{length, length-set}
-use borrow.Author.Needs.{needs}
-use Rattle.blocks.proofs.Loads.{EightWritten, eightSet, eight-written, eight-lent, eight-back, eight-length}
+use Rattle.blocks.proofs.Loads.{Rooms, load-rooms, EightWritten, eightSet, eight-written, eight-lent, eight-back, eight-length}
 use Rattle.blocks.proofs.load_eight.Statement.{statement}
 use Rattle.blocks.proofs.load_eight.Tie as tie
 
+rooms : (c : tie.Start) → Rooms (length (c .args .word .now)) (c .args .i) (length (c .args .area .now))
+rooms c = load-rooms (c .pre .0 .0) (c .pre .0 .1) (c .good .1 .1 .0 .1)
+
 quad-at-requires : tie.Need-quad-at-requires
-quad-at-requires c κs = search needs
+quad-at-requires c κs = (rooms (c .before) .first, c .before .pre .1)
 
 add-quad-at : tie.Need-add-quad-at
-add-quad-at c = search needs
+add-quad-at c = rooms (c .before .before) .area .each 1 tt .index
 
 quad-at-requires-2 : tie.Need-quad-at-requires-2
-quad-at-requires-2 c κs = search needs
+quad-at-requires-2 c κs = (rooms (c .before .before) .word 1 tt, c .before .before .pre .1)
 
 add-quad-at-2 : tie.Need-add-quad-at-2
-add-quad-at-2 c = search needs
+add-quad-at-2 c = rooms (c .before .before .before) .area .each 2 tt .index
 
 quad-at-requires-3 : tie.Need-quad-at-requires-3
-quad-at-requires-3 c κs = search needs
+quad-at-requires-3 c κs = (rooms (c .before .before .before) .word 2 tt, c .before .before .before .pre .1)
 
 add-quad-at-3 : tie.Need-add-quad-at-3
-add-quad-at-3 c = search needs
+add-quad-at-3 c = rooms (c .before .before .before .before) .area .each 3 tt .index
 
 quad-at-requires-4 : tie.Need-quad-at-requires-4
-quad-at-requires-4 c κs = search needs
+quad-at-requires-4 c κs = (rooms (c .before .before .before .before) .word 3 tt, c .before .before .before .before .pre .1)
 
 add-quad-at-4 : tie.Need-add-quad-at-4
-add-quad-at-4 c = search needs
+add-quad-at-4 c = rooms (c .before .before .before .before .before) .area .each 4 tt .index
 
 quad-at-requires-5 : tie.Need-quad-at-requires-5
-quad-at-requires-5 c κs = search needs
+quad-at-requires-5 c κs = (rooms (c .before .before .before .before .before) .word 4 tt, c .before .before .before .before .before .pre .1)
 
 add-quad-at-5 : tie.Need-add-quad-at-5
-add-quad-at-5 c = search needs
+add-quad-at-5 c = rooms (c .before .before .before .before .before .before) .area .each 5 tt .index
 
 quad-at-requires-6 : tie.Need-quad-at-requires-6
-quad-at-requires-6 c κs = search needs
+quad-at-requires-6 c κs = (rooms (c .before .before .before .before .before .before) .word 5 tt, c .before .before .before .before .before .before .pre .1)
 
 add-quad-at-6 : tie.Need-add-quad-at-6
-add-quad-at-6 c = search needs
+add-quad-at-6 c = rooms (c .before .before .before .before .before .before .before) .area .each 6 tt .index
 
 quad-at-requires-7 : tie.Need-quad-at-requires-7
-quad-at-requires-7 c κs = search needs
+quad-at-requires-7 c κs = (rooms (c .before .before .before .before .before .before .before) .word 6 tt, c .before .before .before .before .before .before .before .pre .1)
 
 add-quad-at-7 : tie.Need-add-quad-at-7
-add-quad-at-7 c = search needs
+add-quad-at-7 c = rooms (c .before .before .before .before .before .before .before .before) .area .each 7 tt .index
 
 quad-at-requires-8 : tie.Need-quad-at-requires-8
-quad-at-requires-8 c κs = search needs
+quad-at-requires-8 c κs = (rooms (c .before .before .before .before .before .before .before .before) .word 7 tt, c .before .before .before .before .before .before .before .before .pre .1)
 
-mul-z0 : tie.Need-mul-z0
-mul-z0 c = search needs
-
-slice-set-from-z0 : tie.Need-slice-set-from-z0
-slice-set-from-z0 c = search needs
-
-add-z1 : tie.Need-add-z1
-add-z1 c = search needs
-
-mul-z1 : tie.Need-mul-z1
-mul-z1 c = search needs
-
-slice-set-from-z1 : tie.Need-slice-set-from-z1
-slice-set-from-z1 c = simp length-set (omega arith)
-
-add-z2 : tie.Need-add-z2
-add-z2 c = search needs
-
-mul-z2 : tie.Need-mul-z2
-mul-z2 c = search needs
-
-slice-set-from-z2 : tie.Need-slice-set-from-z2
-slice-set-from-z2 c = simp length-set (omega arith)
-
-add-z3 : tie.Need-add-z3
-add-z3 c = search needs
-
-mul-z3 : tie.Need-mul-z3
-mul-z3 c = search needs
-
-slice-set-from-z3 : tie.Need-slice-set-from-z3
-slice-set-from-z3 c = simp length-set (omega arith)
-
-add-z4 : tie.Need-add-z4
-add-z4 c = search needs
-
-mul-z4 : tie.Need-mul-z4
-mul-z4 c = search needs
-
-slice-set-from-z4 : tie.Need-slice-set-from-z4
-slice-set-from-z4 c = simp length-set (omega arith)
-
-add-z5 : tie.Need-add-z5
-add-z5 c = search needs
-
-mul-z5 : tie.Need-mul-z5
-mul-z5 c = search needs
-
-slice-set-from-z5 : tie.Need-slice-set-from-z5
-slice-set-from-z5 c = simp length-set (omega arith)
-
-add-z6 : tie.Need-add-z6
-add-z6 c = search needs
-
-mul-z6 : tie.Need-mul-z6
-mul-z6 c = search needs
-
-slice-set-from-z6 : tie.Need-slice-set-from-z6
-slice-set-from-z6 c = simp length-set (omega arith)
-
-add-z7 : tie.Need-add-z7
-add-z7 c = search needs
-
-mul-z7 : tie.Need-mul-z7
-mul-z7 c = search needs
-
-slice-set-from-z7 : tie.Need-slice-set-from-z7
-slice-set-from-z7 c = simp length-set (omega arith)
-
-add-e : tie.Need-add-e
-add-e c = search needs
-
-mul-eight : tie.Need-mul-eight
-mul-eight c = search needs
-
-sub-eight : tie.Need-sub-eight
-sub-eight c = search needs
-
-part-eight-start : tie.Need-part-eight-start
-part-eight-start c = search needs
-
--- the area with the eight quads in it
 abbrev start : tie.After-quad-at8 → tie.Start
 start c = c .before .before .before .before .before .before .before .before .before
 
+mul-z0 : tie.Need-mul-z0
+mul-z0 c = rooms (start c) .area .start .bytes
+
+slice-set-from-z0 : tie.Need-slice-set-from-z0
+slice-set-from-z0 c = rooms (start c) .area .start .below
+
+add-z1 : tie.Need-add-z1
+add-z1 c = rooms (start c) .area .each 1 tt .index
+
+mul-z1 : tie.Need-mul-z1
+mul-z1 c = rooms (start c) .area .each 1 tt .bytes
+
+slice-set-from-z1 : tie.Need-slice-set-from-z1
+slice-set-from-z1 c = simp length-set (rooms (start c) .area .each 1 tt .below)
+
+add-z2 : tie.Need-add-z2
+add-z2 c = rooms (start c) .area .each 2 tt .index
+
+mul-z2 : tie.Need-mul-z2
+mul-z2 c = rooms (start c) .area .each 2 tt .bytes
+
+slice-set-from-z2 : tie.Need-slice-set-from-z2
+slice-set-from-z2 c = simp length-set (rooms (start c) .area .each 2 tt .below)
+
+add-z3 : tie.Need-add-z3
+add-z3 c = rooms (start c) .area .each 3 tt .index
+
+mul-z3 : tie.Need-mul-z3
+mul-z3 c = rooms (start c) .area .each 3 tt .bytes
+
+slice-set-from-z3 : tie.Need-slice-set-from-z3
+slice-set-from-z3 c = simp length-set (rooms (start c) .area .each 3 tt .below)
+
+add-z4 : tie.Need-add-z4
+add-z4 c = rooms (start c) .area .each 4 tt .index
+
+mul-z4 : tie.Need-mul-z4
+mul-z4 c = rooms (start c) .area .each 4 tt .bytes
+
+slice-set-from-z4 : tie.Need-slice-set-from-z4
+slice-set-from-z4 c = simp length-set (rooms (start c) .area .each 4 tt .below)
+
+add-z5 : tie.Need-add-z5
+add-z5 c = rooms (start c) .area .each 5 tt .index
+
+mul-z5 : tie.Need-mul-z5
+mul-z5 c = rooms (start c) .area .each 5 tt .bytes
+
+slice-set-from-z5 : tie.Need-slice-set-from-z5
+slice-set-from-z5 c = simp length-set (rooms (start c) .area .each 5 tt .below)
+
+add-z6 : tie.Need-add-z6
+add-z6 c = rooms (start c) .area .each 6 tt .index
+
+mul-z6 : tie.Need-mul-z6
+mul-z6 c = rooms (start c) .area .each 6 tt .bytes
+
+slice-set-from-z6 : tie.Need-slice-set-from-z6
+slice-set-from-z6 c = simp length-set (rooms (start c) .area .each 6 tt .below)
+
+add-z7 : tie.Need-add-z7
+add-z7 c = rooms (start c) .area .each 7 tt .index
+
+mul-z7 : tie.Need-mul-z7
+mul-z7 c = rooms (start c) .area .each 7 tt .bytes
+
+slice-set-from-z7 : tie.Need-slice-set-from-z7
+slice-set-from-z7 c = simp length-set (rooms (start c) .area .each 7 tt .below)
+
+add-e : tie.Need-add-e
+add-e c = rooms (start c) .area .end
+
+mul-eight : tie.Need-mul-eight
+mul-eight c = rooms (start c) .area .start .bytes
+
+sub-eight : tie.Need-sub-eight
+sub-eight c = rooms (start c) .area .ordered
+
+part-eight-start : tie.Need-part-eight-start
+part-eight-start c = rooms (start c) .area .ordered
+
+-- the area with the eight quads in it
 written : (c : tie.After-quad-at8) → let s = start c .args in
     EightWritten (s .word .now) (s .i) (s .area .now)
     (eightSet (s .area .now) (s .i)
@@ -160,7 +161,7 @@ written c =
     (c .quad-at8 .ensures)
 
 part-eight-end : tie.Need-part-eight-end
-part-eight-end c = omega (arith, written c .long)
+part-eight-end c = simp length-set (rooms (start c) .area .within)
 
 eight-requires : tie.Need-eight-requires
 eight-requires c κs = let d = c .before in eight-lent (start d .args .word .now) _ _ (start d .pre .0 .1) (written d)

@@ -1,168 +1,161 @@
 -- `quarters::size_four` meets its contract: all quads are read before the first size is written. Assumes nothing.
-use Prim.Native.Nat.{ℕ, _+_, _<_}
 use mathlib.Core.Path.{refl, _∙_}
-use native.Mathlib.Omega.{arith}
-use lib.ListN.{length-set}
-use borrow.Author.Needs.{needs}
-use Rattle.area.specs.Area.{at}
-use Rattle.area.specs.Numbers.{stored}
-use Rattle.quads.specs.Quads.{sumSize, differenceSize, Raisable}
+use lib.ListN.{length, length-set}
+use Rattle.quads.specs.Quads.{sumSize, differenceSize}
 use Rattle.quads.specs.Small.{sum-small, difference-small}
-use Rattle.quarters.proofs.QuadReads.{quad-raisable, four-written}
+use Rattle.quarters.proofs.QuadReads.{FourQuads, Rooms, first-raisable, four-raisable, four-written, size-rooms}
 use Rattle.quarters.proofs.size_four.Statement.{statement}
 use Rattle.quarters.proofs.size_four.Tie as tie
 
+asked : (c : tie.Start) → FourQuads (c .args .q) (c .args .i) (c .args .part .now)
+asked c = record { room = c .pre .0; quads = c .pre .1 }
+
+rooms : (c : tie.Start) → Rooms (c .args .q) (c .args .i) (length (c .args .part .now))
+rooms c = size-rooms (asked c) (c .good .1 .1 .0 .1)
+
 mul-z0 : tie.Need-mul-z0
-mul-z0 c = search needs
+mul-z0 c = rooms c .quads .start .bytes
 
 slice-copy-out-z0 : tie.Need-slice-copy-out-z0
-slice-copy-out-z0 c = search needs
+slice-copy-out-z0 c = rooms c .quads .start .below
 
 add-z1 : tie.Need-add-z1
-add-z1 c = search needs
+add-z1 c = rooms (c .before) .quads .each 1 tt .index
 
 mul-z1 : tie.Need-mul-z1
-mul-z1 c = search needs
+mul-z1 c = rooms (c .before) .quads .each 1 tt .bytes
 
 slice-copy-out-z1 : tie.Need-slice-copy-out-z1
-slice-copy-out-z1 c = search needs
+slice-copy-out-z1 c = rooms (c .before) .quads .each 1 tt .below
 
 add-z2 : tie.Need-add-z2
-add-z2 c = search needs
+add-z2 c = rooms (c .before .before) .quads .each 2 tt .index
 
 mul-z2 : tie.Need-mul-z2
-mul-z2 c = search needs
+mul-z2 c = rooms (c .before .before) .quads .each 2 tt .bytes
 
 slice-copy-out-z2 : tie.Need-slice-copy-out-z2
-slice-copy-out-z2 c = search needs
+slice-copy-out-z2 c = rooms (c .before .before) .quads .each 2 tt .below
 
 add-z3 : tie.Need-add-z3
-add-z3 c = search needs
+add-z3 c = rooms (c .before .before .before) .quads .each 3 tt .index
 
 mul-z3 : tie.Need-mul-z3
-mul-z3 c = search needs
+mul-z3 c = rooms (c .before .before .before) .quads .each 3 tt .bytes
 
 slice-copy-out-z3 : tie.Need-slice-copy-out-z3
-slice-copy-out-z3 c = search needs
+slice-copy-out-z3 c = rooms (c .before .before .before) .quads .each 3 tt .below
 
 add-s : tie.Need-add-s
-add-s c = search needs
-
--- the quads were read
-abbrev place : tie.After-z3 → ℕ
-place r = r .before .before .before .before .args .i
-
-raisable :
-    (r : tie.After-z3) (j : ℕ) → j < place r + 4 → Raisable (stored (at (r .before .before .before .before .args .part .now) j))
-raisable r j l = quad-raisable (r .before .before .before .before .pre .1) j (omega arith)
+add-s c = rooms (c .before .before .before .before) .sums .start .index
 
 sum-size-requires : tie.Need-sum-size-requires
-sum-size-requires c κs = raisable c (place c) (omega arith)
+sum-size-requires c κs = first-raisable (asked (c .before .before .before .before))
 
 mul-part : tie.Need-mul-part
-mul-part c = search needs
+mul-part c = rooms (c .before .before .before .before .before) .sums .start .bytes
 
 slice-set-from-part : tie.Need-slice-set-from-part
-slice-set-from-part c = search needs
+slice-set-from-part c = rooms (c .before .before .before .before .before) .sums .start .below
 
 sum-size-requires-2 : tie.Need-sum-size-requires-2
-sum-size-requires-2 c κs = let r = c .before in raisable r (place r + 1) (omega arith)
+sum-size-requires-2 c κs = four-raisable (asked (c .before .before .before .before .before)) 1 tt
 
 add-part : tie.Need-add-part
-add-part c = search needs
+add-part c = rooms (c .before .before .before .before .before .before) .sums .each 1 tt .index
 
 mul-part-2 : tie.Need-mul-part-2
-mul-part-2 c = search needs
+mul-part-2 c = rooms (c .before .before .before .before .before .before) .sums .each 1 tt .bytes
 
 slice-set-from-part-2 : tie.Need-slice-set-from-part-2
-slice-set-from-part-2 c = simp length-set (omega arith)
+slice-set-from-part-2 c = simp length-set (rooms (c .before .before .before .before .before .before) .sums .each 1 tt .below)
 
 sum-size-requires-3 : tie.Need-sum-size-requires-3
-sum-size-requires-3 c κs = let r = c .before .before in raisable r (place r + 2) (omega arith)
+sum-size-requires-3 c κs = four-raisable (asked (c .before .before .before .before .before .before)) 2 tt
 
 add-part-2 : tie.Need-add-part-2
-add-part-2 c = search needs
+add-part-2 c = rooms (c .before .before .before .before .before .before .before) .sums .each 2 tt .index
 
 mul-part-3 : tie.Need-mul-part-3
-mul-part-3 c = search needs
+mul-part-3 c = rooms (c .before .before .before .before .before .before .before) .sums .each 2 tt .bytes
 
 slice-set-from-part-3 : tie.Need-slice-set-from-part-3
-slice-set-from-part-3 c = simp length-set (omega arith)
+slice-set-from-part-3 c = simp length-set (rooms (c .before .before .before .before .before .before .before) .sums .each 2 tt .below)
 
 sum-size-requires-4 : tie.Need-sum-size-requires-4
-sum-size-requires-4 c κs = let r = c .before .before .before in raisable r (place r + 3) (omega arith)
+sum-size-requires-4 c κs = four-raisable (asked (c .before .before .before .before .before .before .before)) 3 tt
 
 add-part-3 : tie.Need-add-part-3
-add-part-3 c = search needs
+add-part-3 c = rooms (c .before .before .before .before .before .before .before .before) .sums .each 3 tt .index
 
 mul-part-4 : tie.Need-mul-part-4
-mul-part-4 c = search needs
+mul-part-4 c = rooms (c .before .before .before .before .before .before .before .before) .sums .each 3 tt .bytes
 
 slice-set-from-part-4 : tie.Need-slice-set-from-part-4
-slice-set-from-part-4 c = simp length-set (omega arith)
+slice-set-from-part-4 c = simp length-set (rooms (c .before .before .before .before .before .before .before .before) .sums .each 3 tt .below)
 
 add-d : tie.Need-add-d
-add-d c = search needs
+add-d c = rooms (c .before .before .before .before .before .before .before .before) .differences .start .index
 
 difference-size-requires : tie.Need-difference-size-requires
-difference-size-requires c κs = let r = c .before .before .before .before in raisable r (place r) (omega arith)
+difference-size-requires c κs = first-raisable (asked (c .before .before .before .before .before .before .before .before))
 
 mul-part-5 : tie.Need-mul-part-5
-mul-part-5 c = search needs
+mul-part-5 c = rooms (c .before .before .before .before .before .before .before .before .before) .differences .start .bytes
 
 slice-set-from-part-5 : tie.Need-slice-set-from-part-5
-slice-set-from-part-5 c = simp length-set (omega arith)
+slice-set-from-part-5 c = simp length-set (rooms (c .before .before .before .before .before .before .before .before .before) .differences .start .below)
 
 difference-size-requires-2 : tie.Need-difference-size-requires-2
-difference-size-requires-2 c κs = let r = c .before .before .before .before .before in raisable r (place r + 1) (omega arith)
+difference-size-requires-2 c κs = four-raisable (asked (c .before .before .before .before .before .before .before .before .before)) 1 tt
 
 add-part-4 : tie.Need-add-part-4
-add-part-4 c = search needs
+add-part-4 c = rooms (c .before .before .before .before .before .before .before .before .before .before) .differences .each 1 tt .index
 
 mul-part-6 : tie.Need-mul-part-6
-mul-part-6 c = search needs
+mul-part-6 c = rooms (c .before .before .before .before .before .before .before .before .before .before) .differences .each 1 tt .bytes
 
 slice-set-from-part-6 : tie.Need-slice-set-from-part-6
-slice-set-from-part-6 c = simp length-set (omega arith)
+slice-set-from-part-6 c = simp length-set (rooms (c .before .before .before .before .before .before .before .before .before .before) .differences .each 1 tt .below)
 
 difference-size-requires-3 : tie.Need-difference-size-requires-3
-difference-size-requires-3 c κs = let r = c .before .before .before .before .before .before in raisable r (place r + 2) (omega arith)
+difference-size-requires-3 c κs = four-raisable (asked (c .before .before .before .before .before .before .before .before .before .before)) 2 tt
 
 add-part-5 : tie.Need-add-part-5
-add-part-5 c = search needs
+add-part-5 c = rooms (c .before .before .before .before .before .before .before .before .before .before .before) .differences .each 2 tt .index
 
 mul-part-7 : tie.Need-mul-part-7
-mul-part-7 c = search needs
+mul-part-7 c = rooms (c .before .before .before .before .before .before .before .before .before .before .before) .differences .each 2 tt .bytes
 
 slice-set-from-part-7 : tie.Need-slice-set-from-part-7
-slice-set-from-part-7 c = simp length-set (omega arith)
+slice-set-from-part-7 c = simp length-set (rooms (c .before .before .before .before .before .before .before .before .before .before .before) .differences .each 2 tt .below)
 
 difference-size-requires-4 : tie.Need-difference-size-requires-4
-difference-size-requires-4 c κs =
-    let r = c .before .before .before .before .before .before .before in raisable r (place r + 3) (omega arith)
+difference-size-requires-4 c κs = four-raisable (asked (c .before .before .before .before .before .before .before .before .before .before .before)) 3 tt
 
 add-t13 : tie.Need-add-t13
-add-t13 c = search needs
+add-t13 c = rooms (c .before .before .before .before .before .before .before .before .before .before .before .before) .differences .each 3 tt .index
 
 mul-t10 : tie.Need-mul-t10
-mul-t10 c = search needs
+mul-t10 c = rooms (c .before .before .before .before .before .before .before .before .before .before .before .before) .differences .each 3 tt .bytes
 
 slice-set-from-part-8 : tie.Need-slice-set-from-part-8
-slice-set-from-part-8 c = simp length-set (omega arith)
+slice-set-from-part-8 c = simp length-set (rooms (c .before .before .before .before .before .before .before .before .before .before .before .before) .differences .each 3 tt .below)
 
 returns : tie.Need-returns
 returns c =
     let v = c .before .before .before .before in
-    let u = v .before .before in
-    let r = u .before .before in
-    let (room, k) = r .before .before .before .before .pre in
+    let u = v .before .before .before .before in
+    let k = asked (u .before .before .before .before) in
+    let r = rooms (u .before .before .before .before) in
     record {
       between = _;
       sums =
-          four-written k (place r) room sumSize sum-small _ refl (omega (arith, k .size))
-          (u .before .sum-size .ensures) (u .sum-size2 .ensures) (v .before .sum-size3 .ensures) (v .sum-size4 .ensures);
+          four-written k sumSize sum-small _ refl (r .sums .within)
+          (v .before .before .before .sum-size .ensures) (v .before .before .sum-size2 .ensures)
+          (v .before .sum-size3 .ensures) (v .sum-size4 .ensures);
       differences =
-          four-written k (place r) room differenceSize difference-small _ (omega arith) (simp length-set (omega (arith, k .size)))
+          four-written k differenceSize difference-small _ (r .further) (simp length-set (r .last))
           (c .before .before .before .difference-size .ensures) (c .before .before .difference-size2 .ensures)
           (c .before .difference-size3 .ensures) (c .difference-size4 .ensures);
     }

@@ -14,13 +14,13 @@ mul-c : tie.Need-mul-c
 mul-c c = rooms c .four
 
 add-c : tie.Need-add-c
-add-c c = rooms c .decoded .first
+add-c c = rooms c .decoded .start .index
 
 add-d : tie.Need-add-d
 add-d c = rooms c .decoded .end
 
 mul-d : tie.Need-mul-d
-mul-d c = rooms c .decoded .bytes
+mul-d c = rooms c .decoded .start .bytes
 
 sub-d : tie.Need-sub-d
 sub-d c = rooms c .decoded .ordered
@@ -35,7 +35,7 @@ add-x : tie.Need-add-x
 add-x c = rooms (c .before .before) .place .end
 
 mul-x : tie.Need-mul-x
-mul-x c = rooms (c .before .before) .place .bytes
+mul-x c = rooms (c .before .before) .place .start .bytes
 
 sub-x : tie.Need-sub-x
 sub-x c = rooms (c .before .before) .place .ordered
@@ -50,7 +50,7 @@ add-y : tie.Need-add-y
 add-y c = rooms (c .before .before .before) .partner .end
 
 mul-y : tie.Need-mul-y
-mul-y c = rooms (c .before .before .before) .partner .bytes
+mul-y c = rooms (c .before .before .before) .partner .start .bytes
 
 sub-y : tie.Need-sub-y
 sub-y c = rooms (c .before .before .before) .partner .ordered
@@ -82,13 +82,13 @@ mul-r : tie.Need-mul-r
 mul-r c = rooms (c .before .before .before .before .before .before .before .before) .twice
 
 add-r : tie.Need-add-r
-add-r c = rooms (c .before .before .before .before .before .before .before .before) .one .first
+add-r c = rooms (c .before .before .before .before .before .before .before .before) .one .start .index
 
 add-add-four : tie.Need-add-add-four
 add-add-four c = rooms (c .before .before .before .before .before .before .before .before) .one .end
 
 mul-add-four : tie.Need-mul-add-four
-mul-add-four c = rooms (c .before .before .before .before .before .before .before .before) .one .bytes
+mul-add-four c = rooms (c .before .before .before .before .before .before .before .before) .one .start .bytes
 
 sub-add-four : tie.Need-sub-add-four
 sub-add-four c = rooms (c .before .before .before .before .before .before .before .before) .one .ordered
@@ -106,13 +106,13 @@ mul-s : tie.Need-mul-s
 mul-s c = rooms (c .before .before .before .before .before .before .before .before .before .before .before) .twice
 
 add-s : tie.Need-add-s
-add-s c = rooms (c .before .before .before .before .before .before .before .before .before .before .before) .two .first
+add-s c = rooms (c .before .before .before .before .before .before .before .before .before .before .before) .two .start .index
 
 add-add-four-2 : tie.Need-add-add-four-2
 add-add-four-2 c = rooms (c .before .before .before .before .before .before .before .before .before .before .before) .two .end
 
 mul-add-four-2 : tie.Need-mul-add-four-2
-mul-add-four-2 c = rooms (c .before .before .before .before .before .before .before .before .before .before .before) .two .bytes
+mul-add-four-2 c = rooms (c .before .before .before .before .before .before .before .before .before .before .before) .two .start .bytes
 
 sub-add-four-2 : tie.Need-sub-add-four-2
 sub-add-four-2 c = rooms (c .before .before .before .before .before .before .before .before .before .before .before) .two .ordered
