@@ -1,6 +1,11 @@
 -- `blocks::load_eight` meets its contract: all eight quads are made before the first is written. Assumes nothing.
+use Prim.Native.Nat.{ℕ, _+_}
+use mathlib.Core.List.{List, [], _∷_}
 use mathlib.Core.Path.{ap, _∙_}
-use lib.ListN.{length, length-set}
+use lib.IntN.{ℤ}
+use lib.ListN.{length}
+use Rattle.area.specs.Numbers.{stored}
+use Rattle.area.specs.Places.{below-sets, fits-sets}
 use Rattle.blocks.proofs.Loads.{Rooms, load-rooms, EightWritten, eightSet, eight-written, eight-lent, eight-back, eight-length}
 use Rattle.blocks.proofs.load_eight.Statement.{statement}
 use Rattle.blocks.proofs.load_eight.Tie as tie
@@ -56,6 +61,31 @@ quad-at-requires-8 c κs = (rooms (c .before .before .before .before .before .be
 abbrev start : tie.After-quad-at8 → tie.Start
 start c = c .before .before .before .before .before .before .before .before .before
 
+-- the first quads stored, the last first
+abbrev one : tie.After-quad-at8 → List (ℕ × ℤ)
+one c = (start c .args .i, stored (c .before .before .before .before .before .before .before .quad-at .result)) ∷ []
+
+abbrev two : tie.After-quad-at8 → List (ℕ × ℤ)
+two c = (start c .args .i + 1, stored (c .before .before .before .before .before .before .quad-at2 .result)) ∷ one c
+
+abbrev three : tie.After-quad-at8 → List (ℕ × ℤ)
+three c = (start c .args .i + 2, stored (c .before .before .before .before .before .quad-at3 .result)) ∷ two c
+
+abbrev four : tie.After-quad-at8 → List (ℕ × ℤ)
+four c = (start c .args .i + 3, stored (c .before .before .before .before .quad-at4 .result)) ∷ three c
+
+abbrev five : tie.After-quad-at8 → List (ℕ × ℤ)
+five c = (start c .args .i + 4, stored (c .before .before .before .quad-at5 .result)) ∷ four c
+
+abbrev six : tie.After-quad-at8 → List (ℕ × ℤ)
+six c = (start c .args .i + 5, stored (c .before .before .quad-at6 .result)) ∷ five c
+
+abbrev seven : tie.After-quad-at8 → List (ℕ × ℤ)
+seven c = (start c .args .i + 6, stored (c .before .quad-at7 .result)) ∷ six c
+
+abbrev eight : tie.After-quad-at8 → List (ℕ × ℤ)
+eight c = (start c .args .i + 7, stored (c .quad-at8 .result)) ∷ seven c
+
 mul-z0 : tie.Need-mul-z0
 mul-z0 c = rooms (start c) .area .start .bytes
 
@@ -69,7 +99,7 @@ mul-z1 : tie.Need-mul-z1
 mul-z1 c = rooms (start c) .area .each 1 tt .bytes
 
 slice-set-from-z1 : tie.Need-slice-set-from-z1
-slice-set-from-z1 c = simp length-set (rooms (start c) .area .each 1 tt .below)
+slice-set-from-z1 c = below-sets (start c .args .area .now) (one c) (rooms (start c) .area .each 1 tt .below)
 
 add-z2 : tie.Need-add-z2
 add-z2 c = rooms (start c) .area .each 2 tt .index
@@ -78,7 +108,7 @@ mul-z2 : tie.Need-mul-z2
 mul-z2 c = rooms (start c) .area .each 2 tt .bytes
 
 slice-set-from-z2 : tie.Need-slice-set-from-z2
-slice-set-from-z2 c = simp length-set (rooms (start c) .area .each 2 tt .below)
+slice-set-from-z2 c = below-sets (start c .args .area .now) (two c) (rooms (start c) .area .each 2 tt .below)
 
 add-z3 : tie.Need-add-z3
 add-z3 c = rooms (start c) .area .each 3 tt .index
@@ -87,7 +117,7 @@ mul-z3 : tie.Need-mul-z3
 mul-z3 c = rooms (start c) .area .each 3 tt .bytes
 
 slice-set-from-z3 : tie.Need-slice-set-from-z3
-slice-set-from-z3 c = simp length-set (rooms (start c) .area .each 3 tt .below)
+slice-set-from-z3 c = below-sets (start c .args .area .now) (three c) (rooms (start c) .area .each 3 tt .below)
 
 add-z4 : tie.Need-add-z4
 add-z4 c = rooms (start c) .area .each 4 tt .index
@@ -96,7 +126,7 @@ mul-z4 : tie.Need-mul-z4
 mul-z4 c = rooms (start c) .area .each 4 tt .bytes
 
 slice-set-from-z4 : tie.Need-slice-set-from-z4
-slice-set-from-z4 c = simp length-set (rooms (start c) .area .each 4 tt .below)
+slice-set-from-z4 c = below-sets (start c .args .area .now) (four c) (rooms (start c) .area .each 4 tt .below)
 
 add-z5 : tie.Need-add-z5
 add-z5 c = rooms (start c) .area .each 5 tt .index
@@ -105,7 +135,7 @@ mul-z5 : tie.Need-mul-z5
 mul-z5 c = rooms (start c) .area .each 5 tt .bytes
 
 slice-set-from-z5 : tie.Need-slice-set-from-z5
-slice-set-from-z5 c = simp length-set (rooms (start c) .area .each 5 tt .below)
+slice-set-from-z5 c = below-sets (start c .args .area .now) (five c) (rooms (start c) .area .each 5 tt .below)
 
 add-z6 : tie.Need-add-z6
 add-z6 c = rooms (start c) .area .each 6 tt .index
@@ -114,7 +144,7 @@ mul-z6 : tie.Need-mul-z6
 mul-z6 c = rooms (start c) .area .each 6 tt .bytes
 
 slice-set-from-z6 : tie.Need-slice-set-from-z6
-slice-set-from-z6 c = simp length-set (rooms (start c) .area .each 6 tt .below)
+slice-set-from-z6 c = below-sets (start c .args .area .now) (six c) (rooms (start c) .area .each 6 tt .below)
 
 add-z7 : tie.Need-add-z7
 add-z7 c = rooms (start c) .area .each 7 tt .index
@@ -123,7 +153,7 @@ mul-z7 : tie.Need-mul-z7
 mul-z7 c = rooms (start c) .area .each 7 tt .bytes
 
 slice-set-from-z7 : tie.Need-slice-set-from-z7
-slice-set-from-z7 c = simp length-set (rooms (start c) .area .each 7 tt .below)
+slice-set-from-z7 c = below-sets (start c .args .area .now) (seven c) (rooms (start c) .area .each 7 tt .below)
 
 add-e : tie.Need-add-e
 add-e c = rooms (start c) .area .end
@@ -161,7 +191,7 @@ written c =
     (c .quad-at8 .ensures)
 
 part-eight-end : tie.Need-part-eight-end
-part-eight-end c = simp length-set (rooms (start c) .area .within)
+part-eight-end c = fits-sets (start c .args .area .now) (eight c) (rooms (start c) .area .within)
 
 eight-requires : tie.Need-eight-requires
 eight-requires c κs = let d = c .before in eight-lent (start d .args .word .now) _ _ (start d .pre .0 .1) (written d)

@@ -1,6 +1,11 @@
 -- `quarters::size_four` meets its contract: all quads are read before the first size is written. Assumes nothing.
+use Prim.Native.Nat.{ℕ, _+_}
+use mathlib.Core.List.{List, [], _∷_}
 use mathlib.Core.Path.{refl, _∙_}
-use lib.ListN.{length, length-set}
+use lib.IntN.{ℤ}
+use lib.ListN.{length}
+use Rattle.area.specs.Numbers.{stored}
+use Rattle.area.specs.Places.{below-sets, fits-sets}
 use Rattle.quads.specs.Quads.{sumSize, differenceSize}
 use Rattle.quads.specs.Small.{sum-small, difference-small}
 use Rattle.quarters.proofs.QuadReads.{FourQuads, Rooms, first-raisable, four-raisable, four-written, size-rooms}
@@ -12,6 +17,28 @@ asked c = record { room = c .pre .0; quads = c .pre .1 }
 
 rooms : (c : tie.Start) → Rooms (c .args .q) (c .args .i) (length (c .args .part .now))
 rooms c = size-rooms (asked c) (c .good .1 .1 .0 .1)
+
+-- the sizes stored after each call, the last first
+abbrev one : tie.After-sum-size → List (ℕ × ℤ)
+one c = (c .before .before .before .before .before .args .q + c .before .before .before .before .before .args .i, stored (c .sum-size .result)) ∷ []
+
+abbrev two : tie.After-sum-size2 → List (ℕ × ℤ)
+two c = (c .before .before .before .before .before .before .args .q + c .before .before .before .before .before .before .args .i + 1, stored (c .sum-size2 .result)) ∷ one (c .before)
+
+abbrev three : tie.After-sum-size3 → List (ℕ × ℤ)
+three c = (c .before .before .before .before .before .before .before .args .q + c .before .before .before .before .before .before .before .args .i + 2, stored (c .sum-size3 .result)) ∷ two (c .before)
+
+abbrev four : tie.After-sum-size4 → List (ℕ × ℤ)
+four c = (c .before .before .before .before .before .before .before .before .args .q + c .before .before .before .before .before .before .before .before .args .i + 3, stored (c .sum-size4 .result)) ∷ three (c .before)
+
+abbrev five : tie.After-difference-size → List (ℕ × ℤ)
+five c = (c .before .before .before .before .before .before .before .before .before .args .q + (c .before .before .before .before .before .before .before .before .before .args .q + c .before .before .before .before .before .before .before .before .before .args .i), stored (c .difference-size .result)) ∷ four (c .before)
+
+abbrev six : tie.After-difference-size2 → List (ℕ × ℤ)
+six c = (c .before .before .before .before .before .before .before .before .before .before .args .q + (c .before .before .before .before .before .before .before .before .before .before .args .q + c .before .before .before .before .before .before .before .before .before .before .args .i) + 1, stored (c .difference-size2 .result)) ∷ five (c .before)
+
+abbrev seven : tie.After-difference-size3 → List (ℕ × ℤ)
+seven c = (c .before .before .before .before .before .before .before .before .before .before .before .args .q + (c .before .before .before .before .before .before .before .before .before .before .before .args .q + c .before .before .before .before .before .before .before .before .before .before .before .args .i) + 2, stored (c .difference-size3 .result)) ∷ six (c .before)
 
 mul-z0 : tie.Need-mul-z0
 mul-z0 c = rooms c .quads .start .bytes
@@ -68,7 +95,7 @@ mul-part-2 : tie.Need-mul-part-2
 mul-part-2 c = rooms (c .before .before .before .before .before .before) .sums .each 1 tt .bytes
 
 slice-set-from-part-2 : tie.Need-slice-set-from-part-2
-slice-set-from-part-2 c = simp length-set (rooms (c .before .before .before .before .before .before) .sums .each 1 tt .below)
+slice-set-from-part-2 c = below-sets (c .before .before .before .before .before .before .args .part .now) (one (c .before)) (rooms (c .before .before .before .before .before .before) .sums .each 1 tt .below)
 
 sum-size-requires-3 : tie.Need-sum-size-requires-3
 sum-size-requires-3 c κs = four-raisable (asked (c .before .before .before .before .before .before)) 2 tt
@@ -80,7 +107,7 @@ mul-part-3 : tie.Need-mul-part-3
 mul-part-3 c = rooms (c .before .before .before .before .before .before .before) .sums .each 2 tt .bytes
 
 slice-set-from-part-3 : tie.Need-slice-set-from-part-3
-slice-set-from-part-3 c = simp length-set (rooms (c .before .before .before .before .before .before .before) .sums .each 2 tt .below)
+slice-set-from-part-3 c = below-sets (c .before .before .before .before .before .before .before .args .part .now) (two (c .before)) (rooms (c .before .before .before .before .before .before .before) .sums .each 2 tt .below)
 
 sum-size-requires-4 : tie.Need-sum-size-requires-4
 sum-size-requires-4 c κs = four-raisable (asked (c .before .before .before .before .before .before .before)) 3 tt
@@ -92,7 +119,7 @@ mul-part-4 : tie.Need-mul-part-4
 mul-part-4 c = rooms (c .before .before .before .before .before .before .before .before) .sums .each 3 tt .bytes
 
 slice-set-from-part-4 : tie.Need-slice-set-from-part-4
-slice-set-from-part-4 c = simp length-set (rooms (c .before .before .before .before .before .before .before .before) .sums .each 3 tt .below)
+slice-set-from-part-4 c = below-sets (c .before .before .before .before .before .before .before .before .args .part .now) (three (c .before)) (rooms (c .before .before .before .before .before .before .before .before) .sums .each 3 tt .below)
 
 add-d : tie.Need-add-d
 add-d c = rooms (c .before .before .before .before .before .before .before .before) .differences .start .index
@@ -104,7 +131,7 @@ mul-part-5 : tie.Need-mul-part-5
 mul-part-5 c = rooms (c .before .before .before .before .before .before .before .before .before) .differences .start .bytes
 
 slice-set-from-part-5 : tie.Need-slice-set-from-part-5
-slice-set-from-part-5 c = simp length-set (rooms (c .before .before .before .before .before .before .before .before .before) .differences .start .below)
+slice-set-from-part-5 c = below-sets (c .before .before .before .before .before .before .before .before .before .args .part .now) (four (c .before)) (rooms (c .before .before .before .before .before .before .before .before .before) .differences .start .below)
 
 difference-size-requires-2 : tie.Need-difference-size-requires-2
 difference-size-requires-2 c κs = four-raisable (asked (c .before .before .before .before .before .before .before .before .before)) 1 tt
@@ -116,7 +143,7 @@ mul-part-6 : tie.Need-mul-part-6
 mul-part-6 c = rooms (c .before .before .before .before .before .before .before .before .before .before) .differences .each 1 tt .bytes
 
 slice-set-from-part-6 : tie.Need-slice-set-from-part-6
-slice-set-from-part-6 c = simp length-set (rooms (c .before .before .before .before .before .before .before .before .before .before) .differences .each 1 tt .below)
+slice-set-from-part-6 c = below-sets (c .before .before .before .before .before .before .before .before .before .before .args .part .now) (five (c .before)) (rooms (c .before .before .before .before .before .before .before .before .before .before) .differences .each 1 tt .below)
 
 difference-size-requires-3 : tie.Need-difference-size-requires-3
 difference-size-requires-3 c κs = four-raisable (asked (c .before .before .before .before .before .before .before .before .before .before)) 2 tt
@@ -128,7 +155,7 @@ mul-part-7 : tie.Need-mul-part-7
 mul-part-7 c = rooms (c .before .before .before .before .before .before .before .before .before .before .before) .differences .each 2 tt .bytes
 
 slice-set-from-part-7 : tie.Need-slice-set-from-part-7
-slice-set-from-part-7 c = simp length-set (rooms (c .before .before .before .before .before .before .before .before .before .before .before) .differences .each 2 tt .below)
+slice-set-from-part-7 c = below-sets (c .before .before .before .before .before .before .before .before .before .before .before .args .part .now) (six (c .before)) (rooms (c .before .before .before .before .before .before .before .before .before .before .before) .differences .each 2 tt .below)
 
 difference-size-requires-4 : tie.Need-difference-size-requires-4
 difference-size-requires-4 c κs = four-raisable (asked (c .before .before .before .before .before .before .before .before .before .before .before)) 3 tt
@@ -140,7 +167,7 @@ mul-t10 : tie.Need-mul-t10
 mul-t10 c = rooms (c .before .before .before .before .before .before .before .before .before .before .before .before) .differences .each 3 tt .bytes
 
 slice-set-from-part-8 : tie.Need-slice-set-from-part-8
-slice-set-from-part-8 c = simp length-set (rooms (c .before .before .before .before .before .before .before .before .before .before .before .before) .differences .each 3 tt .below)
+slice-set-from-part-8 c = below-sets (c .before .before .before .before .before .before .before .before .before .before .before .before .args .part .now) (seven (c .before)) (rooms (c .before .before .before .before .before .before .before .before .before .before .before .before) .differences .each 3 tt .below)
 
 returns : tie.Need-returns
 returns c =
@@ -155,7 +182,7 @@ returns c =
           (v .before .before .before .sum-size .ensures) (v .before .before .sum-size2 .ensures)
           (v .before .sum-size3 .ensures) (v .sum-size4 .ensures);
       differences =
-          four-written k differenceSize difference-small _ (r .further) (simp length-set (r .last))
+          four-written k differenceSize difference-small _ (r .further) (fits-sets (u .before .before .before .before .args .part .now) (four v) (r .last))
           (c .before .before .before .difference-size .ensures) (c .before .before .difference-size2 .ensures)
           (c .before .difference-size3 .ensures) (c .difference-size4 .ensures);
     }
