@@ -4,17 +4,18 @@ use mathlib.Core.Path.{_≡_, refl, ap, ap₂, _∙_}
 use mathlib.Core.List.{List}
 use native.Mathlib.Nat.{add-zero}
 use native.Mathlib.Omega.{arith}
-use lib.Dec.{T}
+use lib.Dec.{T, ltb, lit<}
 use lib.IntN.{ℤ, pos, negℤ, natAbs, _+ℤ_, _-ℤ_, _*ℤ_}
-use lib.ListN.{set}
+use lib.ListN.{length, set}
 use lib.Signed.{nonNeg}
-use mir.Syntax.{w32}
+use mir.Syntax.{w32, w64}
 use mir.Val.{Fits, SFits, toZ}
 use mir.Facts.{toZ-ofZ}
 use Rattle.words.specs.Written.{Written, written-four}
 use Rattle.area.specs.Area.{at, IsBit, zero-bit, one-bit}
 use Rattle.area.specs.AreaLaws.{bit-lt}
 use Rattle.area.specs.Numbers.{Half, stored, stored-eq, fits-32, natAbs-add, natAbs-neg, sum-fits, sum-stored}
+use Rattle.area.specs.Places.{Places, index-fits, places}
 use Rattle.hadamard.specs.Correlation.{sign}
 use Rattle.peaks.specs.Peaks.{pairSize}
 use Rattle.peaks.specs.Stored.{raise-fits, raise-is, raise-casts, lower-fits, lower-is}
@@ -83,6 +84,23 @@ module _ {a b c d : ℤ} (ha : IsBit a) (hb : IsBit b) (hc : IsBit c) (hd : IsBi
 -- ---- quads of signs in the area
 
 module _ (i : ℕ) {q : ℕ} {xs : List ℤ} (pre : (i + 4 ≤ q) × QuarterBits q xs) where
+  -- the places that the code takes
+  module _ (small : length xs * 4 < 2 ^ 63) where
+    pub packed-many : Fits w64 (4 * q)
+    packed-many = index-fits small (omega (arith, pre .1 .room))
+
+    pub packed-source : Places i 4 (length xs)
+    packed-source = places small tt (omega (arith, pre .0, pre .1 .room))
+
+    pub packed-target : Places (4 * q + i) 4 (length xs)
+    packed-target = places small tt (omega (arith, pre .0, pre .1 .room))
+
+  pub first-quad : (i < q) × QuarterBits q xs
+  first-quad = (omega (arith, pre .0), pre .1)
+
+  pub next-quad : (j : ℕ) → T (ltb j 4) → (i + j < q) × QuarterBits q xs
+  next-quad j t = (omega (arith, pre .0, lit< {m = j} {n = 4} t), pre .1)
+
   signs-held : {z : ℤ} (j : ℕ) → z ≡ quadSigns q xs j → stored z ≡ quadSigns q xs j
   signs-held {z} j e =
       let b : ℕ → ℕ = λ p. natAbs (at xs p) in
