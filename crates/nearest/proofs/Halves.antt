@@ -10,8 +10,10 @@ use lib.Pow.{pow-pos, pow-mono}
 use Rattle.words.specs.Written.{Written, written-as}
 use Rattle.area.specs.Area.{at, Bits, wordOf}
 use Rattle.hadamard.specs.Correlation.{values, correlation}
-use Rattle.peaks.specs.Peaks.{packed, signsPacked, firstOf, secondOf, joined, Packed}
-use Rattle.peaks.specs.Packing.{packed-size, packed-small, first-packed, second-packed, correlation-size, correlation-packed}
+use Rattle.peaks.specs.Peaks.{joined}
+use Rattle.peaks.specs.Packing.{packed-size, correlation-size, correlation-packed}
+use Rattle.halves.specs.Halves.{packed, signsPacked, firstOf, secondOf, Packed}
+use Rattle.halves.specs.PairNumbers.{packed-small, first-packed, second-packed}
 use Rattle.nearest.proofs.Values.{value-at, value-size, joined-whole}
 use Rattle.nearest.proofs.Lent.{Layout, Correlated, Packing}
 

@@ -8,7 +8,8 @@ use lib.IntN.{ℤ, pos}
 use lib.ListN.{length}
 use Rattle.words.specs.Written.{Written}
 use Rattle.area.specs.Area.{at, Bits}
-use Rattle.peaks.specs.Peaks.{signsPacked, firstOf, secondOf, joined, Packed}
+use Rattle.peaks.specs.Peaks.{joined}
+use Rattle.halves.specs.Halves.{signsPacked, firstOf, secondOf, Packed}
 use Rattle.quads.specs.Quads.{quadSigns, QuarterBits}
 use Rattle.quarters.specs.Quarters.{Quads, firsts, lasts}
 

@@ -33,7 +33,7 @@ fn pack(quarters: bool, q: usize, area: &mut [i32])
     if quarters {
         quads::pack(q, area);
     } else {
-        peaks::pack(q, area);
+        halves::pack(q, area);
     }
 }
 
@@ -45,7 +45,7 @@ fn search(quarters: bool, q: usize, part: &mut [i32]) -> Peak
     if quarters {
         quarters::search(q, part)
     } else {
-        peaks::search(q, part)
+        halves::search(q, part)
     }
 }
 

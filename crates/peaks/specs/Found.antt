@@ -1,5 +1,5 @@
 -- What the search finds is the peak. Assumes nothing.
-use Prim.Native.Nat.{ℕ, _+_, _-_, _%_, _≤_, _<_, max}
+use Prim.Native.Nat.{ℕ, _+_, _%_, _≤_, _<_, max}
 use mathlib.Core.Path.{_≡_, sym, ap, ap₂, _∙_, subst}
 use mathlib.Core.Bool.{true, false, false≢true}
 use mathlib.Core.List.{List}
@@ -8,17 +8,15 @@ use native.Mathlib.Decide.{ℕ-discrete}
 use native.Mathlib.Omega.{arith}
 use lib.Dec.{eqb}
 use lib.IntN.{ℤ, pos, natAbs}
-use lib.ListN.{length, take, drop}
+use lib.ListN.{length}
 use borrow.Author.Tests.{eq-eqb, eqb-true, ne-eqb}
 use Rattle.words.specs.Sum.{greatestBelow}
 use Rattle.words.specs.SumLaws.{total-ext}
-use Rattle.words.specs.Parts.{part-at, part-length}
-use Rattle.words.specs.Written.{Written}
 use Rattle.area.specs.Area.{at}
 use Rattle.hadamard.specs.Correlation.{constantOf}
 use Rattle.hadamard.specs.Peak.{Alone, Shared, alone-count, alone-first, alone-greatest, greatest-bound, one-alone, peak, shared-count}
 use Rattle.peaks.specs.declared.Peak.{Peak}
-use Rattle.peaks.specs.Peaks.{entrySizes, firstOf, joined, keysBelow, secondOf, sizeOf, IsPeak, Packed, PeakAt, Sizes}
+use Rattle.peaks.specs.Peaks.{entrySizes, joined, keysBelow, IsPeak, PeakAt, Sizes}
 use Rattle.peaks.specs.Keys.{keys-alone, keys-ext, keys-shared}
 use Rattle.peaks.specs.Pairs.{Layout, greater-sign, pair-alone, pair-even, joined-layout, pairs-greatest, pairs-share, sizes}
 
@@ -137,17 +135,3 @@ module _ {h : ℕ} {x y : ℕ → ℤ} {zs : List ℤ} (few : h ≤ 512) (s : He
 
       best : greatestBelow (length zs) (entrySizes zs) ≡ greatestBelow h (sizes x y)
       best = ap (λ (n : ℕ). greatestBelow n (entrySizes zs)) (s .long) ∙ total-ext max 0 h _ _ same
-
--- ---- the sizes of packed pairs
-
--- written after them, as the code takes `[h..h + h]`
-pub sizes-held :
-    {h : ℕ} {xs ys : List ℤ} → Packed h xs → Written (pos 0) h h (λ i. pos (sizeOf (at xs i))) xs ys
-    → Held h (λ i. firstOf (at xs i)) (λ i. secondOf (at xs i)) (take ((h + h) - h) (drop h ys))
-sizes-held {h} {ys = ys} k w =
-    let room : h + h ≤ length ys = omega (arith, w .long, k .size) in
-    let all : (h + h) - h ≡ h = omega arith in
-    rw all (record { long = part-length (pos 0) h h ys room; each = λ i l. part-at (pos 0) h h ys room i l ∙ w .within i l })
-
-pub sizes-small : {h : ℕ} {xs : List ℤ} → Packed h xs → (i : ℕ) → i < h → sizeOf (at xs i) ≤ 1024
-sizes-small k i l = omega (arith, k .first i l, k .second i l)

@@ -1,6 +1,6 @@
 -- Two words packed in one are transformed together. Assumes nothing.
-use Prim.Native.Nat.{ℕ, zero, suc, _+_, _*_, _/_, _%_, _^_, _≤_, _<_}
-use mathlib.Core.Path.{_≡_, refl, sym, ap, ap₂, _∙_}
+use Prim.Native.Nat.{ℕ, zero, suc, _+_, _*_, _%_, _^_, _≤_, _<_}
+use mathlib.Core.Path.{_≡_, refl, sym, ap, _∙_}
 use native.Mathlib.Omega.{arith}
 use lib.Bits.{bitAnd}
 use lib.Count.{ones}
@@ -13,7 +13,7 @@ use Rattle.words.specs.SumLaws.{sumℤ-ext}
 use Rattle.area.specs.Numbers.{natAbs-add, natAbs-neg}
 use Rattle.hadamard.specs.Correlation.{correlation, signed}
 use Rattle.hadamard.specs.CorrelationLaws.{natAbs-signed, swap4}
-use Rattle.peaks.specs.Peaks.{packedBy, packed, raised, firstOf, secondOf}
+use Rattle.peaks.specs.Peaks.{packedBy}
 
 -- ---- a number k times
 
@@ -91,26 +91,6 @@ lifted k (negsuc a) h = rw (le-ltb k (suc a) h)
 
 pub lifted-back : (k : ℕ) (x : ℤ) → natAbs x ≤ k → pos (natAbs (x +ℤ pos k)) -ℤ pos k ≡ x
 lifted-back k x h = ap (λ (z : ℤ). z -ℤ pos k) (sym (lifted k x h)) ∙ +ℤ-negℤ-cancel x (pos k)
-
-module _ (x y : ℤ) (hx : natAbs x ≤ 512) (hy : natAbs y ≤ 512) where
-  pub packed-small : natAbs (packed x y) < 2097152
-  packed-small = omega (arith, packed-size 2048 x y)
-
-  -- the two digits
-  raised-digits : raised (packed x y) ≡ natAbs (x +ℤ pos 1024) + natAbs (y +ℤ pos 1024) * 2048
-  raised-digits = ap natAbs (packed-sum 2048 x y (pos 1024) (pos 1024) ∙ ap₂ packed (lifted 1024 x (omega arith)) (lifted 1024 y (omega arith)))
-
-  pub first-packed : firstOf (packed x y) ≡ x
-  unfolding firstOf
-  first-packed =
-      let digit : raised (packed x y) % 2048 ≡ natAbs (x +ℤ pos 1024) = omega (arith, raised-digits, natAbs-add x (pos 1024)) in
-      ap (λ (d : ℕ). pos d -ℤ pos 1024) digit ∙ lifted-back 1024 x (omega arith)
-
-  pub second-packed : secondOf (packed x y) ≡ y
-  unfolding secondOf
-  second-packed =
-      let digit : raised (packed x y) / 2048 ≡ natAbs (y +ℤ pos 1024) = omega (arith, raised-digits, natAbs-add x (pos 1024)) in
-      ap (λ (d : ℕ). pos d -ℤ pos 1024) digit ∙ lifted-back 1024 y (omega arith)
 
 -- ---- the size of a correlation
 

@@ -1,9 +1,9 @@
--- `peaks::first_of` meets its contract. Assumes nothing.
+-- `halves::first_of` meets its contract. Assumes nothing.
 use borrow.Author.Needs.{needs}
 use Rattle.peaks.specs.Stored.{lower-fits}
-use Rattle.peaks.proofs.Casts.{raised-fits, raised-casts, first-small, first-is}
-use Rattle.peaks.proofs.first_of.Statement.{statement}
-use Rattle.peaks.proofs.first_of.Tie as tie
+use Rattle.halves.proofs.Casts.{raised-fits, raised-casts, first-small, first-is}
+use Rattle.halves.proofs.first_of.Statement.{statement}
+use Rattle.halves.proofs.first_of.Tie as tie
 
 add-result : tie.Need-add-result
 add-result c = raised-fits (c .args .z) (c .pre)

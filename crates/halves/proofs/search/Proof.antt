@@ -7,19 +7,13 @@ use lib.ListN.{take, drop}
 use borrow.Author.Needs.{needs}
 use Rattle.area.specs.Area.{at}
 use Rattle.area.specs.Numbers.{stored, stored-eq}
-use Rattle.peaks.specs.Peaks.{firstOf, secondOf, Sizes}
-use Rattle.peaks.specs.Found.{Held, held-sizes, held-searched, sizes-held, sizes-small, Searched, searched-many, searched-peak, searched-place}
+use Rattle.halves.specs.Halves.{firstOf, secondOf}
+use Rattle.halves.specs.PairNumbers.{sizes-held, sizes-small}
+use Rattle.peaks.specs.Peaks.{Sizes}
+use Rattle.peaks.specs.Found.{Held, held-sizes, held-searched, Searched, searched-many, searched-peak, searched-place}
 use Rattle.peaks.specs.Stored.{as-it-is, size-whole, size-casts, peak-as}
-use Rattle.peaks.proofs.search.Statement.{statement}
-use Rattle.peaks.proofs.search.Tie as tie
-use Rattle.peaks.proofs.search.Reads as reads
-use Rattle.peaks.proofs.search.Lts as lts
-use Rattle.peaks.proofs.first_of.Reads as first-of-reads
-use Rattle.peaks.proofs.greatest.Reads as greatest-reads
-use Rattle.peaks.proofs.keys.Reads as keys-reads
-use Rattle.peaks.proofs.pair_sizes.Reads as pair-sizes-reads
-use Rattle.peaks.proofs.peak_at.Reads as peak-at-reads
-use Rattle.peaks.proofs.second_of.Reads as second-of-reads
+use Rattle.halves.proofs.search.Statement.{statement}
+use Rattle.halves.proofs.search.Tie as tie
 
 -- ---- what the steps leave
 

@@ -1,4 +1,4 @@
--- `peaks::pair_sizes` meets its contract. Assumes nothing.
+-- `halves::pair_sizes` meets its contract. Assumes nothing.
 use Prim.Native.Nat.{_-_, _≤_, _<_}
 use mathlib.Core.Path.{_≡_, refl, ap, ap₂, _∙_}
 use native.Mathlib.Omega.{arith}
@@ -7,11 +7,11 @@ use lib.IntN.{ℤ, pos, natAbs, _+ℤ_}
 use Rattle.words.specs.Written.{Written, written-none, written-more, written-to}
 use Rattle.area.specs.Area.{at}
 use Rattle.area.specs.Numbers.{stored, sum-fits, sum-stored}
-use Rattle.peaks.specs.Peaks.{firstOf, secondOf, sizeOf}
+use Rattle.halves.specs.Halves.{firstOf, secondOf, sizeOf}
 use Rattle.peaks.specs.Stored.{number-read}
-use Rattle.peaks.proofs.Casts.{IsSize, pair-read, number-small, size-read}
-use Rattle.peaks.proofs.pair_sizes.Statement.{statement}
-use Rattle.peaks.proofs.pair_sizes.Tie as tie
+use Rattle.halves.proofs.Casts.{IsSize, pair-read, number-small, size-read}
+use Rattle.halves.proofs.pair_sizes.Statement.{statement}
+use Rattle.halves.proofs.pair_sizes.Tie as tie
 
 abbrev Inv-loop : tie.InvT-loop
 Inv-loop h part₀ i₀ part i = (i ≤ h) × (length part ≡ length part₀) × Written (pos 0) h i (λ j. pos (sizeOf (at part₀ j))) part₀ part

@@ -1,9 +1,9 @@
--- `peaks::second_of` meets its contract. Assumes nothing.
+-- `halves::second_of` meets its contract. Assumes nothing.
 use native.Mathlib.Omega.{arith}
 use Rattle.peaks.specs.Stored.{lower-fits}
-use Rattle.peaks.proofs.Casts.{raised-fits, raised-casts, second-small, second-is}
-use Rattle.peaks.proofs.second_of.Statement.{statement}
-use Rattle.peaks.proofs.second_of.Tie as tie
+use Rattle.halves.proofs.Casts.{raised-fits, raised-casts, second-small, second-is}
+use Rattle.halves.proofs.second_of.Statement.{statement}
+use Rattle.halves.proofs.second_of.Tie as tie
 
 add-result : tie.Need-add-result
 add-result c = raised-fits (c .args .z) (c .pre)

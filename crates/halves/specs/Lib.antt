@@ -1,0 +1,3 @@
+-- Definitions: Halves. The rest are laws.
+pub mod Halves
+pub mod PairNumbers
