@@ -22,7 +22,8 @@ use Rattle.refusals.specs.declared.Refusal.the-variants.{Tie}
 use Rattle.refusals.specs.declared.Decoded.the-variants.{Accepted, Refused}
 use Rattle.rule.specs.Reading.{order1}
 use Rattle.order_one.specs.OrderOne.{PeakOf, nearest, order1-tie, order1-nearest, whole-nearest, constant-bit}
-use Rattle.direct.specs.Direct.{valueAt, Sought, Readable, Gives}
+use Rattle.block_peak.specs.Sought.{valueAt, Sought}
+use Rattle.direct.specs.Direct.{Readable, Gives}
 use Rattle.direct.specs.BlockPeak.{BlockQuads, block-sought, block-peak}
 
 module _ {m : ℕ} {word out : List ℕ} {area : List ℤ} (r : Readable m word out area) where

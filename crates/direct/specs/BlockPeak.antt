@@ -22,7 +22,7 @@ use Rattle.blocks.specs.Blocks.{quadAt}
 use Rattle.order_one.specs.OrderOne.{PeakOf}
 use Rattle.hadamard.specs.LowDigits.{byDigits, correlation-digits}
 use Rattle.hadamard.specs.Spread.{correlations-spread}
-use Rattle.direct.specs.Direct.{valueAt, Sought}
+use Rattle.block_peak.specs.Sought.{valueAt, Sought}
 
 -- xs are the correlations of the quads of the word w, of exponent k + 2
 pub record BlockQuads (k : ℕ) (w : List ℕ) (xs : List ℤ) : Type 0 where

@@ -1,4 +1,3 @@
--- Definitions: Direct. The rest are laws.
+-- Definitions: Direct. Laws: BlockPeak.
 pub mod Direct
-pub mod QuadPeaks
 pub mod BlockPeak

@@ -1,5 +1,5 @@
 -- `direct::first_order` meets its contract: the block's peak decides. Assumes nothing.
-use Prim.Native.Nat.{_^_, _-_, _≤_}
+use Prim.Native.Nat.{_^_, _-_}
 use mathlib.Core.Path.{_≡_}
 use native.Mathlib.Omega.{arith}
 use borrow.Author.Needs.{needs}

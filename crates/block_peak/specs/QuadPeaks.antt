@@ -24,7 +24,7 @@ use Rattle.quads.specs.Quads.{numberOf, sumSize, differenceSize}
 use Rattle.quads.specs.Small.{sum-small, difference-small}
 use Rattle.keys.specs.Keys.{keyOf, greatestKey, countOf}
 use Rattle.hadamard.specs.LowDigits.{byLow}
-use Rattle.direct.specs.Direct.{valueAt, loneTest, Sought}
+use Rattle.block_peak.specs.Sought.{valueAt, loneTest, Sought}
 
 -- ---- the pairs
 

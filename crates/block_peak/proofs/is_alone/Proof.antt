@@ -1,11 +1,11 @@
--- `direct::is_alone` meets its contract. Assumes nothing.
+-- `block_peak::is_alone` meets its contract. Assumes nothing.
 use mathlib.Core.Path.{refl}
 use native.Mathlib.Omega.{arith}
 use borrow.Author.Needs.{needs}
 use borrow.Author.Tests.{lt-ltb, le-ltb}
 use Rattle.peaks.specs.Stored.{zero-read}
-use Rattle.direct.proofs.is_alone.Statement.{statement}
-use Rattle.direct.proofs.is_alone.Tie as tie
+use Rattle.block_peak.proofs.is_alone.Statement.{statement}
+use Rattle.block_peak.proofs.is_alone.Tie as tie
 
 returns : tie.Need-returns
 returns c = let a = c .before .args in rw (lt-ltb (a .h) (a .g) (c .if1 .taken)) refl

@@ -12,9 +12,9 @@ use Rattle.hadamard.specs.Correlation.{constantOf}
 use Rattle.hadamard.specs.CorrelationLaws.{constantOf-lt}
 use Rattle.keys.specs.Keys.{greatestKey, Bounded}
 use Rattle.peaks.specs.Stored.{as-it-is, number-read}
-use Rattle.direct.specs.QuadPeaks.{firsts, lasts, quad-sizes-small, Top, top-found, top-peak, top-first, top-last, top-quad-below}
-use Rattle.direct.proofs.find_peak.Statement.{statement}
-use Rattle.direct.proofs.find_peak.Tie as tie
+use Rattle.block_peak.specs.QuadPeaks.{firsts, lasts, quad-sizes-small, Top, top-found, top-peak, top-first, top-last, top-quad-below}
+use Rattle.block_peak.proofs.find_peak.Statement.{statement}
+use Rattle.block_peak.proofs.find_peak.Tie as tie
 
 -- ---- the greatest key
 

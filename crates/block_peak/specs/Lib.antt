@@ -1,0 +1,3 @@
+-- Definitions: Sought. Laws: QuadPeaks.
+pub mod Sought
+pub mod QuadPeaks
