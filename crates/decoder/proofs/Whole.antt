@@ -33,7 +33,8 @@ use Rattle.rule.specs.Counts.{leaf-most, reading-leaf, reading-noise}
 use Rattle.told.specs.Told.{Holds, Read}
 use Rattle.direct.specs.Direct.{Readable, Gives}
 use Rattle.readings.specs.Readings.{Ready}
-use Rattle.decoder.specs.Runs.{Deliverable, delivered, Runs}
+use Rattle.delivery.specs.Delivery.{Deliverable, delivered}
+use Rattle.decoder.specs.Runs.{Runs}
 use Rattle.readings.specs.Answers.{Late, by-answer, limited-late}
 
 -- ---- a reading

@@ -5,24 +5,12 @@ ghost use Rattle.refusals.specs.Refusals.{Checked};
 ghost use Rattle.rule.specs.Reading;
 ghost use Rattle.rule.specs.Decoding.{limited, decodeCall, decodeProfileCall};
 ghost use Rattle.rule.specs.Calls.{Decodes};
-ghost use Rattle.decoder.specs.Runs.{Runs, Deliverable, delivered};
+ghost use Rattle.decoder.specs.Runs.{Runs};
+use delivery::deliver;
 use readings::reading;
 use refusals::Answer;
 use refusals::Decoded;
 use refusals::Refusal;
-
-// The decoded word, where there is one, to the output.
-fn deliver(answer: Decoded, area: &[i32], out: &mut [u8])
-    requires { ⌜ Deliverable (length (now out)) answer (now area) ⌝ }
-    ensures { λ _. ⌜ now (out .exit) ≡ delivered answer (now (out .entry)) (now (area .entry)) ⌝ }
-{
-    match answer {
-        Decoded::Accepted(_, _) => {
-            area::store(area, out);
-        }
-        Decoded::Refused(_, _, _) => {}
-    }
-}
 
 // A call that passed its checks, read in the area.
 fn run_in_area(

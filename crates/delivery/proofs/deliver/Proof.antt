@@ -1,11 +1,11 @@
--- `decoder::deliver` meets its contract. Assumes nothing.
+-- `delivery::deliver` meets its contract. Assumes nothing.
 use borrow.Author.Needs.{needs}
 use mathlib.Core.Path.{sym, ap, subst, _∙_}
 use lib.ListN.{length}
 use Rattle.refusals.specs.declared.Decoded.{Decoded}
-use Rattle.decoder.specs.Runs.{Deliverable, delivered}
-use Rattle.decoder.proofs.deliver.Statement.{statement}
-use Rattle.decoder.proofs.deliver.Tie as tie
+use Rattle.delivery.specs.Delivery.{Deliverable, delivered}
+use Rattle.delivery.proofs.deliver.Statement.{statement}
+use Rattle.delivery.proofs.deliver.Tie as tie
 
 enum-told : tie.Need-enum-told
 enum-told c = search needs

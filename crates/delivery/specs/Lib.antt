@@ -1,0 +1,2 @@
+-- Definitions: Delivery.
+pub mod Delivery
