@@ -91,6 +91,13 @@ round-Inv m r rounds left area₀ n rest used₀ i₀ i-end area used i = Poll (
 abbrev round-μ : round-lts.MeasureT-loop
 round-μ m r rounds left area₀ n rest used₀ i₀ i-end area used i = i-end - i
 
+-- a number as small as a place fits
+small-fits : {x : ℕ} → x ≤ 1000000 → x < 2 ^ 64
+small-fits h = omega arith
+
+closer : {e i : ℕ} → i < e → e - (i + 1) < e - i
+closer h = omega arith
+
 -- a place of the code, or a need there, at the measure t
 abbrev Reading : ℕ → ((g : reading-lts.Claims) (pre : In 1 reading-kinds.ps) (post : Out 1 reading-kinds.ps reading-kinds.r)
     (inv : reading-lts.InvT-loop) (μ : reading-lts.MeasureT-loop) → Type 0) → Type 0
@@ -286,6 +293,9 @@ module _ (t : ℕ) where
   abbrev first : Rounding t round-lts.In-loop → Rounding t round-lts.After-area
   first c = c .before .before
 
+  next-small : (c : Rounding t round-lts.In-loop) → c .before .loop .i + 1 ≤ 1000000
+  next-small c = omega (arith, c .loop-test .taken, small (sized (first c)))
+
   stage : (c : Rounding t round-lts.In-loop) → Stage (round-at-of (first c)) (c .before .loop .area) (c .before .loop .i) (c .before .loop .used)
   stage c =
       let s = entry (first c) in
@@ -364,7 +374,7 @@ module _ (t : ℕ) where
   round-loop-holds c = start-poll (zeroed c) _ _ _ (entry c .pre .1 .0 .bits)
 
   round-add-project : Rounding t round-lts.Need-add-project
-  round-add-project c = search needs
+  round-add-project c = record { fits = small-fits (next-small c) }
 
   round-project-requires : Rounding t round-lts.Need-project-requires
   round-project-requires c κs = stage-projects (stage (c .before))
@@ -388,7 +398,7 @@ module _ (t : ℕ) where
   round-reading-requires c κs = (omega (arith, entry (first (turn2 (c .before))) .pre .0), lent-ready (lent (c .before)))
 
   round-add-cast : Rounding t round-lts.Need-add-cast
-  round-add-cast c = search needs
+  round-add-cast c = record { fits = small-fits (next-small (turn3 c)) }
 
   round-cast-requires : Rounding t round-lts.Need-cast-requires
   round-cast-requires c κs = answered-cast (answered (c .before))
@@ -412,10 +422,10 @@ module _ (t : ℕ) where
       record { fits = omega (arith, entry (first (turn4 d)) .pre .1 .0 .few, cast-few (cast d) _ (c .before .leaves .given .1)) }
 
   round-add-i : Rounding t round-lts.Need-add-i
-  round-add-i c = search needs
+  round-add-i c = record { fits = small-fits (next-small (turn4 (c .before .before .before))) }
 
   round-loop-less : Rounding t round-lts.Need-loop-less
-  round-loop-less c = search needs
+  round-loop-less c = closer (turn4 (c .before .before .before) .loop-test .taken)
 
   round-loop-again : Rounding t round-lts.Need-loop-again
   round-loop-again c = cast-more (cast (c .before .before .before)) _ (c .before .leaves .given .1)
