@@ -14,9 +14,11 @@ use Rattle.area.specs.Area.{at, Bits, wordOf}
 use Rattle.hadamard.specs.Correlation.{values, correlation}
 use Rattle.peaks.specs.Peaks.{packedBy, joined}
 use Rattle.peaks.specs.Packing.{correlation-size}
-use Rattle.quads.specs.Quads.{quad, quadSigns}
+use Rattle.quads.specs.Quads.{quad}
 use Rattle.quads.specs.QuadLaws.{correlation-quad, signs-size, Numbers, numbers}
-use Rattle.quarters.specs.Quarters.{Quads, firsts, lasts}
+use Rattle.quarter_packing.specs.QuarterSigns.{quadSigns}
+use Rattle.quarter_sizes.specs.Sized.{Quads}
+use Rattle.quarters.specs.Quarters.{firsts, lasts}
 use Rattle.nearest.proofs.Values.{value-at, value-size, joined-whole}
 use Rattle.nearest.proofs.Lent.{Layout, Correlated, Packing}
 

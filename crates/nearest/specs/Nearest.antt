@@ -10,8 +10,9 @@ use Rattle.words.specs.Written.{Written}
 use Rattle.area.specs.Area.{at, Bits}
 use Rattle.peaks.specs.Peaks.{joined}
 use Rattle.halves.specs.Halves.{signsPacked, firstOf, secondOf, Packed}
-use Rattle.quads.specs.Quads.{quadSigns, QuarterBits}
-use Rattle.quarters.specs.Quarters.{Quads, firsts, lasts}
+use Rattle.quarter_packing.specs.QuarterSigns.{quadSigns, QuarterBits}
+use Rattle.quarter_sizes.specs.Sized.{Quads}
+use Rattle.quarters.specs.Quarters.{firsts, lasts}
 
 -- whether a word of exponent m is packed by quarters: from 16 places on the code takes four numbers at a time, and up to 128 places a
 -- quarter's correlation fits 8 bits

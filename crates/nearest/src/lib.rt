@@ -31,7 +31,7 @@ fn pack(quarters: bool, q: usize, area: &mut [i32])
     ensures { λ _. ⌜ PackedAfter quarters q (now (area .entry)) (now (area .exit)) ⌝ }
 {
     if quarters {
-        quads::pack(q, area);
+        quarter_packing::pack(q, area);
     } else {
         halves::pack(q, area);
     }

@@ -11,9 +11,11 @@ use Rattle.area.specs.Numbers.{stored}
 use Rattle.peaks.specs.Found.{Held, held-sizes, held-searched, Searched, searched-many, searched-peak, searched-place}
 use Rattle.peaks.specs.Peaks.{Sizes}
 use Rattle.peaks.specs.Stored.{number-read, as-it-is, size-whole, size-casts, peak-as}
-use Rattle.quarters.specs.Quarters.{firsts, lasts, Quads}
-use Rattle.quarters.specs.QuadSizes.{sizes-held, sizes-small, sized-quads, lowOf, low-below, first-at, last-at}
-use Rattle.quarters.proofs.QuadReads.{quad-read, quad-raisable}
+use Rattle.quarter_sizes.specs.Sized.{Quads}
+use Rattle.quarter_sizes.specs.SizedLaws.{sized-quads}
+use Rattle.quarter_sizes.proofs.QuadReads.{quad-read, quad-raisable}
+use Rattle.quarters.specs.Quarters.{firsts, lasts}
+use Rattle.quarters.specs.QuadSizes.{sizes-held, sizes-small, lowOf, low-below, first-at, last-at}
 use Rattle.quarters.proofs.search.Statement.{statement}
 use Rattle.quarters.proofs.search.Tie as tie
 

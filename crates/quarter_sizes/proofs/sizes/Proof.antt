@@ -1,13 +1,13 @@
--- `quarters::sizes` meets its contract: a turn of the loop writes the sizes of four quads. Assumes nothing.
+-- `quarter_sizes::sizes` meets its contract: a turn of the loop writes the sizes of four quads. Assumes nothing.
 use Prim.Native.Nat.{ℕ, _+_, _-_, _%_, _≤_}
 use mathlib.Core.Path.{_≡_, refl, subst}
 use native.Mathlib.Omega.{arith}
 use lib.ListN.{length}
 use borrow.Author.Needs.{needs}
-use Rattle.quarters.specs.Quarters.{Sized}
-use Rattle.quarters.specs.QuadSizes.{sized-none, sized-more, sized-quads}
-use Rattle.quarters.proofs.sizes.Statement.{statement}
-use Rattle.quarters.proofs.sizes.Tie as tie
+use Rattle.quarter_sizes.specs.Sized.{Sized}
+use Rattle.quarter_sizes.specs.SizedLaws.{sized-none, sized-more, sized-quads}
+use Rattle.quarter_sizes.proofs.sizes.Statement.{statement}
+use Rattle.quarter_sizes.proofs.sizes.Tie as tie
 
 abbrev Inv-loop : tie.InvT-loop
 Inv-loop q part₀ i₀ part i = (i ≤ q) × (i % 4 ≡ 0) × (length part ≡ length part₀) × Sized q i part₀ part

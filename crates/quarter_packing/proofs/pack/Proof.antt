@@ -1,14 +1,14 @@
--- `quads::pack` meets its contract: a turn writes four quads. Assumes nothing.
+-- `quarter_packing::pack` meets its contract: a turn writes four quads. Assumes nothing.
 use Prim.Native.Nat.{_-_, _*_, _%_, _≤_}
 use mathlib.Core.Path.{_≡_, refl}
 use native.Mathlib.Omega.{arith}
 use lib.IntN.{pos}
 use borrow.Author.Needs.{needs}
 use Rattle.words.specs.Written.{Written, written-none, written-run, written-to}
-use Rattle.quads.specs.Quads.{quadSigns}
-use Rattle.quads.proofs.QuadCasts.{still-bits, still-signs}
-use Rattle.quads.proofs.pack.Statement.{statement}
-use Rattle.quads.proofs.pack.Tie as tie
+use Rattle.quarter_packing.specs.QuarterSigns.{quadSigns}
+use Rattle.quarter_packing.proofs.SignCasts.{still-bits, still-signs}
+use Rattle.quarter_packing.proofs.pack.Statement.{statement}
+use Rattle.quarter_packing.proofs.pack.Tie as tie
 
 abbrev Inv-loop : tie.InvT-loop
 Inv-loop q area₀ i₀ area i = (i ≤ q) × (i % 4 ≡ 0) × Written (pos 0) (4 * q) i (quadSigns q area₀) area₀ area

@@ -1,4 +1,4 @@
--- `quads::pack_four` meets its contract: all four quads are made before the first is written. Assumes nothing.
+-- `quarter_packing::pack_four` meets its contract: all four quads are made before the first is written. Assumes nothing.
 use Prim.Native.Nat.{ℕ, _+_, _*_}
 use mathlib.Core.List.{List, [], _∷_}
 use lib.IntN.{ℤ}
@@ -7,9 +7,9 @@ use mir.Syntax.{w64}
 use mir.Val.{Fits}
 use Rattle.area.specs.Numbers.{stored}
 use Rattle.area.specs.Places.{Places, below-sets}
-use Rattle.quads.proofs.QuadCasts.{first-quad, four-packed, next-quad, packed-many, packed-source, packed-target}
-use Rattle.quads.proofs.pack_four.Statement.{statement}
-use Rattle.quads.proofs.pack_four.Tie as tie
+use Rattle.quarter_packing.proofs.SignCasts.{first-quad, four-packed, next-quad, packed-many, packed-source, packed-target}
+use Rattle.quarter_packing.proofs.pack_four.Statement.{statement}
+use Rattle.quarter_packing.proofs.pack_four.Tie as tie
 
 -- the places that the code takes
 many : (c : tie.Start) → Fits w64 (4 * c .args .q)

@@ -1,11 +1,11 @@
--- `quads::quad_at` meets its contract. Assumes nothing.
+-- `quarter_packing::quad_at` meets its contract. Assumes nothing.
 use Prim.Native.Nat.{_+_, _*_}
 use native.Mathlib.Omega.{arith}
 use borrow.Author.Needs.{needs}
 use Rattle.area.specs.Area.{at, IsBit}
-use Rattle.quads.proofs.QuadCasts.{scaled-fits, pair-fits, second-fits, coded-fits, coded-double, coded-rest, coded-signs}
-use Rattle.quads.proofs.quad_at.Statement.{statement}
-use Rattle.quads.proofs.quad_at.Tie as tie
+use Rattle.quarter_packing.proofs.SignCasts.{scaled-fits, pair-fits, second-fits, coded-fits, coded-double, coded-rest, coded-signs}
+use Rattle.quarter_packing.proofs.quad_at.Statement.{statement}
+use Rattle.quarter_packing.proofs.quad_at.Tie as tie
 
 mul-x : tie.Need-mul-x
 mul-x c = search needs

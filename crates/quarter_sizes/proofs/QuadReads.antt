@@ -12,7 +12,7 @@ use Rattle.area.specs.Numbers.{stored, stored-eq}
 use Rattle.area.specs.Places.{Places, places}
 use Rattle.peaks.specs.Stored.{number-read}
 use Rattle.quads.specs.Quads.{Raisable}
-use Rattle.quarters.specs.Quarters.{Quads}
+use Rattle.quarter_sizes.specs.Sized.{Quads}
 
 module _ {q : ℕ} {xs : List ℤ} (k : Quads q xs) where
   pub quad-read : (j : ℕ) → j < q → stored (at xs j) ≡ at xs j

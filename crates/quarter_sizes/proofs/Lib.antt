@@ -1,0 +1,2 @@
+-- Quads as the code reads them.
+pub mod QuadReads

@@ -1,0 +1,3 @@
+-- Definitions: Sized. The rest are laws.
+pub mod Sized
+pub mod SizedLaws
