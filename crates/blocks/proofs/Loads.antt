@@ -29,7 +29,8 @@ use Rattle.hadamard.specs.CorrelationLaws.{correlation-ext}
 use Rattle.hadamard.specs.Summable.{Summable}
 use Rattle.hadamard.specs.Transform.{sums, summable-entries}
 use Rattle.quads.specs.QuadLaws.{signs-size}
-use Rattle.blocks.specs.Blocks.{Loaded, quadAt, quadsOf}
+use Rattle.byte_quads.specs.ByteQuads.{quadAt}
+use Rattle.blocks.specs.Blocks.{Loaded, quadsOf}
 use Rattle.blocks.proofs.Rows.{front-more, front-rest, part-is, written-lent, written-over}
 
 -- ---- quads are small

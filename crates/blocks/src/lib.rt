@@ -7,19 +7,8 @@ ghost use Rattle.words.specs.Sum.{tabulate};
 ghost use Rattle.words.specs.Butterflies.{halved};
 ghost use Rattle.hadamard.specs.Correlation.{correlation};
 ghost use Rattle.hadamard.specs.Transform.{sums};
-ghost use Rattle.blocks.specs.Blocks.{quadAt, Bytes, Block, Loaded};
-
-// The values of four bytes, packed: the compiler makes one load of the four.
-fn quad_at(word: &[u8], i: usize) -> i32
-    requires { ⌜ 4 * i + 4 ≤ length (now word) ⌝ }
-    requires { ⌜ Bytes (now word) ⌝ }
-    ensures { λ z. ⌜ z ≡ quadAt (now (word .entry)) i ⌝ }
-{
-    let j = 4 * i;
-    let x = word[j] as u32 + 256 * (word[j + 1] as u32);
-    let y = word[j + 2] as u32 + 256 * (word[j + 3] as u32);
-    16843009 - 2 * ((x + 65536 * y) as i32)
-}
+ghost use Rattle.byte_quads.specs.ByteQuads.{quadAt, Bytes};
+ghost use Rattle.blocks.specs.Blocks.{Block, Loaded};
 
 // Eight quads from i on, transformed. All are made before any is written, so that the compiler takes them together and keeps them out of the
 // area until they are transformed.
@@ -28,14 +17,14 @@ fn load_eight(word: &[u8], i: usize, area: &mut [i32])
     requires { ⌜ Bytes (now word) ⌝ }
     ensures { λ _. ⌜ now (area .exit) ≡ putMid i 8 (now (area .entry)) (halved sums 3 (tabulate 8 (λ k. quadAt (now (word .entry)) (i + k)))) ⌝ }
 {
-    let z0 = quad_at(word, i);
-    let z1 = quad_at(word, i + 1);
-    let z2 = quad_at(word, i + 2);
-    let z3 = quad_at(word, i + 3);
-    let z4 = quad_at(word, i + 4);
-    let z5 = quad_at(word, i + 5);
-    let z6 = quad_at(word, i + 6);
-    let z7 = quad_at(word, i + 7);
+    let z0 = byte_quads::quad_at(word, i);
+    let z1 = byte_quads::quad_at(word, i + 1);
+    let z2 = byte_quads::quad_at(word, i + 2);
+    let z3 = byte_quads::quad_at(word, i + 3);
+    let z4 = byte_quads::quad_at(word, i + 4);
+    let z5 = byte_quads::quad_at(word, i + 5);
+    let z6 = byte_quads::quad_at(word, i + 6);
+    let z7 = byte_quads::quad_at(word, i + 7);
     area[i] = z0;
     area[i + 1] = z1;
     area[i + 2] = z2;

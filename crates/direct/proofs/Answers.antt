@@ -17,7 +17,8 @@ use Rattle.hadamard.specs.Correlation.{values, correlation, affine}
 use Rattle.peaks.specs.declared.Peak.{Peak}
 use Rattle.peaks.specs.Peaks.{IsPeak}
 use Rattle.peaks.specs.Found.{peak-below}
-use Rattle.blocks.specs.Blocks.{quadAt, Block}
+use Rattle.byte_quads.specs.ByteQuads.{quadAt}
+use Rattle.blocks.specs.Blocks.{Block}
 use Rattle.refusals.specs.declared.Refusal.the-variants.{Tie}
 use Rattle.refusals.specs.declared.Decoded.the-variants.{Accepted, Refused}
 use Rattle.rule.specs.Reading.{order1}

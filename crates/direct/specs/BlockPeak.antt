@@ -18,7 +18,7 @@ use Rattle.peaks.specs.Packing.{correlation-size}
 use Rattle.peaks.specs.SamePeak.{peak-ext}
 use Rattle.quads.specs.QuadLaws.{correlation-quad, Numbers, numbers}
 use Rattle.keys.specs.Keys.{Bounded}
-use Rattle.blocks.specs.Blocks.{quadAt}
+use Rattle.byte_quads.specs.ByteQuads.{quadAt}
 use Rattle.order_one.specs.OrderOne.{PeakOf}
 use Rattle.hadamard.specs.LowDigits.{byDigits, correlation-digits}
 use Rattle.hadamard.specs.Spread.{correlations-spread}

@@ -10,7 +10,7 @@ use mir.Facts.{toZ-pos}
 use Rattle.words.specs.Word.{bit}
 use Rattle.area.specs.Numbers.{stored}
 use Rattle.quads.specs.FourSigns.{code, code-le, double-fits, signs-fit, signs-are}
-use Rattle.blocks.specs.Blocks.{quadAt, Bytes}
+use Rattle.byte_quads.specs.ByteQuads.{quadAt, Bytes}
 
 module _ {w : List ℕ} (h : Bytes w) (i : ℕ) where
   abbrev packed : ℕ

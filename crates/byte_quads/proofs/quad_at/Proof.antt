@@ -1,11 +1,11 @@
--- `blocks::quad_at` meets its contract. Assumes nothing.
+-- `byte_quads::quad_at` meets its contract. Assumes nothing.
 use Prim.Native.Nat.{_+_, _*_, _≤_}
 use native.Mathlib.Omega.{arith}
 use borrow.Author.Needs.{needs}
 use Rattle.words.specs.Word.{bit}
-use Rattle.blocks.proofs.ByteCasts.{packed-double, packed-le, packed-rest, packed-signs}
-use Rattle.blocks.proofs.quad_at.Statement.{statement}
-use Rattle.blocks.proofs.quad_at.Tie as tie
+use Rattle.byte_quads.proofs.ByteCasts.{packed-double, packed-le, packed-rest, packed-signs}
+use Rattle.byte_quads.proofs.quad_at.Statement.{statement}
+use Rattle.byte_quads.proofs.quad_at.Tie as tie
 
 mul-j : tie.Need-mul-j
 mul-j c = search needs

@@ -1,0 +1,2 @@
+-- What the proof of quad_at uses.
+mod ByteCasts
