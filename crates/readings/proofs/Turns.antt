@@ -1,4 +1,4 @@
--- A reading in rounds in the area: what its loop over the rounds keeps. Assumes nothing.
+-- A reading in the area: orders 0 and 1, and what its loop over the rounds keeps. Assumes nothing.
 use Prim.Native.Nat.{ℕ, zero, suc, _+_, _-_, _*_, _%_, _^_, _≤_, _<_}
 use native.Mathlib.Omega.{arith}
 use native.Mathlib.Nat.{sub-zero}
@@ -20,10 +20,12 @@ use Rattle.refusals.specs.declared.Decoded.{Decoded}
 use Rattle.refusals.specs.declared.Decoded.the-variants.{Accepted, Refused}
 use Rattle.code.specs.Code.{codewordTest}
 use Rattle.cosets.specs.Votes.{Tally}
-use Rattle.rule.specs.Reading.{Outcome, accepted, refused, leavesOf, abstained, flips, reading, roundLeaves, rounds}
+use Rattle.hadamard.specs.Correlation.{values}
+use Rattle.rule.specs.Reading.{Outcome, accepted, refused, leavesOf, order0, order1, abstained, flips, reading, roundLeaves, rounds}
 use Rattle.rule.specs.Rounds.{rounds-none, rounds-step, still}
-use Rattle.rule.specs.Counts.{round-least}
+use Rattle.rule.specs.Counts.{Leaf, reading-leaf, round-least}
 use Rattle.rule.specs.Decoding.{limited}
+use Rattle.rule.specs.DecodingLaws.{limited-within}
 use Rattle.rule.specs.Calls.{valuesOf}
 use Rattle.told.specs.Told.{Read}
 use Rattle.told.specs.ToldLaws.{read-above, read-within}
@@ -34,6 +36,32 @@ use Rattle.readings.specs.Readings.{Ready, Voted}
 use Rattle.readings.specs.Answers.{counted, spent}
 use Rattle.readings.proofs.Flips.{Polled, polled-tally, still-is, word-flipped, word-settled}
 use Rattle.readings.proofs.Fronts.{front-of, front-kept}
+
+-- ---- orders 0 and 1
+
+leaf-leaves : (r : ℕ) (o : Outcome) → Leaf r o → leavesOf o ≡ r
+leaf-leaves r (accepted d k l) h = omega arith
+leaf-leaves r (refused e k l) h = omega arith
+
+module _ (r m limit left : ℕ) (w : List ℕ) (ys : List ℤ) where
+  leaves-are : r ≤ 1 → leavesOf (reading r m limit w) ≡ r
+  leaves-are h = leaf-leaves r (reading r m limit w) (reading-leaf r m limit w h)
+
+  whole-read : {a : Decoded} → r ≤ 1 → r ≤ left → Read (2 ^ m) (reading r m limit w) ys a → Read (2 ^ m) (limited left (reading r m limit w)) ys a
+  whole-read h l read = rw (limited-within left (reading r m limit w) (omega (arith, leaves-are h))) read
+
+  pub read-zero : {a : Decoded} → r ≡ 0 → Read (2 ^ m) (order0 m (values w)) ys a → Read (2 ^ m) (limited left (reading r m limit w)) ys a
+  unfolding reading
+  read-zero e read = whole-read (omega arith) (omega arith) (rw e read)
+
+  pub read-one : {a : Decoded} → r ≡ 1 → (left ≡ 0 → ⊥) → Read (2 ^ m) (order1 m (values w)) ys a → Read (2 ^ m) (limited left (reading r m limit w)) ys a
+  unfolding reading
+  read-one e some read = whole-read (omega arith) (omega arith) (rw e read)
+
+  pub read-none : r ≡ 1 → left ≡ 0 → Read (2 ^ m) (limited left (reading r m limit w)) ys (Refused TooManyLeaves 0 left)
+  read-none e none = read-above ys (reading r m limit w) (omega (arith, leaves-are (omega arith)))
+
+-- ---- order 2 and above
 
 -- a reading in rounds at order r, of a word of exponent M: its projections' exponent and readings, the limits, its outcome, and the
 -- area at its start

@@ -3,7 +3,8 @@
 // lent to the readings one order lower.
 use flips::flip;
 use flips::settle;
-use leaves::leaf;
+use order_one::first_order;
+use order_zero::zero_order;
 use refusals::Decoded;
 use refusals::Refusal;
 use steps::Count;
@@ -25,8 +26,14 @@ pub fn reading(m: usize, r: usize, rounds: usize, left: usize, area: &mut [i32])
     ensures read { λ t. ⌜ Read (2 ^ m) (limited left (Rattle.rule.specs.Reading.reading r m rounds (wordOf (2 ^ m) (now (area .entry))))) (now (area .exit)) (t .answer) ⌝ }
     ensures kept { λ t. ⌜ Kept (2 ^ m) (now (area .entry)) (now (area .exit)) t ⌝ }
 {
-    if r < 2 {
-        return leaf(m, r, left, area);
+    if r == 0 {
+        return zero_order(m, area);
+    }
+    if r == 1 {
+        if left == 0 {
+            return changed(Decoded::Refused(Refusal::TooManyLeaves, 0, left));
+        }
+        return first_order(m, area);
     }
     let n = words::size(m);
     let mut k = 0;

@@ -12,13 +12,14 @@ use borrow.Rule.Slice.PartMut.{putMid}
 use Rattle.words.proofs.size.Reads as size-reads
 use Rattle.area.proofs.fill.Reads as fill-reads
 use Rattle.projections.proofs.project.Reads as project-reads
-use Rattle.leaves.proofs.leaf.Reads as leaf-reads
+use Rattle.order_one.proofs.first_order.Reads as first-order-reads
+use Rattle.order_zero.proofs.zero_order.Reads as zero-order-reads
 use Rattle.told.proofs.changed.Reads as changed-reads
 use Rattle.told.specs.ToldLaws.{changed-tells}
 use Rattle.steps.proofs.cast.Reads as cast-reads
 use Rattle.flips.proofs.flip.Reads as flip-reads
 use Rattle.readings.proofs.Directions.{Round, Poll, Zeroed, Stage, Lent, Answered, Cast, From, round-of, start-long, start-from, start-poll, stage-projects, lent-ready, answered-cast, cast-front, cast-long, cast-over, cast-few, cast-more, poll-done, poll-spent}
-use Rattle.readings.proofs.Turns.{Series, Turn, Made, Flips, series, turn-first, turn-last, turn-exhausted, ready-round, made-few, made-flips, flips-bits, flips-again, flips-settled, flips-kept}
+use Rattle.readings.proofs.Turns.{Series, Turn, Made, Flips, series, turn-first, turn-last, turn-exhausted, ready-round, made-few, made-flips, flips-bits, flips-again, flips-settled, flips-kept, read-zero, read-one, read-none}
 use Rattle.flips.proofs.settle.Reads as settle-reads
 use Rattle.readings.proofs.reading.Reads as reading
 use Rattle.readings.proofs.reading.Kinds as reading-kinds
@@ -51,14 +52,16 @@ round-below t = and 1 round-kinds.ps (falls 1 round-kinds.ps _<_ μ-round t) rou
 -- what the callees of each ask and give
 abbrev reading-given : ℕ → reading-lts.Claims
 reading-given t = (
-  leaf-reads.Asked,
-  leaf-reads.Learnt,
+  zero-order-reads.Asked,
+  zero-order-reads.Learnt,
+  changed-reads.Asked,
+  changed-reads.Learnt,
+  first-order-reads.Asked,
+  first-order-reads.Learnt,
   size-reads.Asked,
   size-reads.Learnt,
   round-below t,
   round.Post,
-  changed-reads.Asked,
-  changed-reads.Learnt,
   flip-reads.Asked,
   flip-reads.Learnt,
   settle-reads.Asked,
@@ -113,11 +116,11 @@ module _ (t : ℕ) where
   abbrev series-of : Reading t reading-lts.Start → Series
   series-of s = series (s .args .m) (s .args .r) (s .args .rounds) (s .args .left) (s .args .area .now)
 
-  above : (c : Reading t reading-lts.Else1) → 2 ≤ c .before .args .r
-  above c = omega (arith, c .if1 .left)
+  above : (c : Reading t reading-lts.Else2) → 2 ≤ c .before .before .args .r
+  above c = omega (arith, c .if2 .left, c .before .if1 .left)
 
-  up : (c : Reading t reading-lts.Else1) → suc (c .before .args .m - 1) ≡ c .before .args .m
-  up c = omega (arith, c .before .pre .1 .some)
+  up : (c : Reading t reading-lts.Else2) → suc (c .before .before .args .m - 1) ≡ c .before .before .args .m
+  up c = omega (arith, c .before .before .pre .1 .some)
 
   -- from the place after a round: its call, the loop's state, and the entry
   abbrev rounded : Reading t reading-lts.After-known-told → Reading t reading-lts.After-round
@@ -127,7 +130,7 @@ module _ (t : ℕ) where
   turned c = rounded c .before .before .before
 
   abbrev begun : Reading t reading-lts.After-known-told → Reading t reading-lts.Start
-  begun c = turned c .before .before .before
+  begun c = turned c .before .before .before .before
 
   made : (c : Reading t reading-lts.After-known-told)
       → Made (series-of (begun c)) (turned c .loop .area) (rounded c .round .last .1 .1 .1 .1 .0) (turned c .loop .k) (turned c .loop .used)
@@ -157,23 +160,38 @@ module _ (t : ℕ) where
     flipped = c .flip .ensures .1;
   }
 
-  reading-leaf-requires : Reading t reading-lts.Need-leaf-requires
-  reading-leaf-requires c κs =
-      let s = c .before .before in
-      let p = s .pre .1 in
-      (omega (arith, c .before .if1 .taken), p .some, p .small, omega (arith, p .room), p .bits)
+  reading-zero-order-requires : Reading t reading-lts.Need-zero-order-requires
+  reading-zero-order-requires c κs = (c .before .before .pre .1 .small, c .before .before .pre .1 .bits)
 
   reading-same-length : Reading t reading-lts.Need-same-length
   reading-same-length c = search needs
 
   reading-returns : Reading t reading-lts.Need-returns
-  reading-returns c = let z = c .before .leaf .ensures in (z .0 _, z .1)
+  reading-returns c = let z = c .before .zero-order .ensures in
+      (read-zero _ _ _ _ _ _ (c .before .before .before .if1 .taken) (z .0), z .1)
+
+  reading-changed-requires : Reading t reading-lts.Need-changed-requires
+  reading-changed-requires c κs = search needs
+
+  reading-returns-2 : Reading t reading-lts.Need-returns-2
+  reading-returns-2 c = changed-tells (c .changed .ensures) (read-none _ _ _ _ _ _ (c .before .before .if2 .taken) (c .before .if3 .taken))
+
+  reading-first-order-requires : Reading t reading-lts.Need-first-order-requires
+  reading-first-order-requires c κs = let s = c .before .before .before .before in
+      (s .pre .1 .some, s .pre .1 .small, omega (arith, s .pre .1 .room), s .pre .1 .bits)
+
+  reading-same-length-2 : Reading t reading-lts.Need-same-length-2
+  reading-same-length-2 c = search needs
+
+  reading-returns-3 : Reading t reading-lts.Need-returns-3
+  reading-returns-3 c = let z = c .before .first-order .ensures in
+      (read-one _ _ _ _ _ _ (c .before .before .before .before .if2 .taken) (c .before .before .before .if3 .left) (z .0), z .1)
 
   reading-size-requires : Reading t reading-lts.Need-size-requires
   reading-size-requires c κs = search needs
 
   reading-loop-holds : Reading t reading-lts.Need-loop-holds
-  reading-loop-holds c = let s = c .before .before in
+  reading-loop-holds c = let s = c .before .before .before in
       turn-first _ _ _ _ _ (above (c .before)) (s .pre .1 .some) (s .pre .1 .bits)
 
   reading-sub-round : Reading t reading-lts.Need-sub-round
@@ -188,24 +206,24 @@ module _ (t : ℕ) where
   reading-round-requires : Reading t reading-lts.Need-round-requires
   reading-round-requires c κs = let l = c .before .before in
       let e = l .before .before in (
-        omega (arith, above e, e .before .pre .0),
-        (ready-round _ (above e) (e .before .pre .1) (l .loop .inv .long) (l .loop .inv .bits), omega (arith, above e)),
+        omega (arith, above e, e .before .before .pre .0),
+        (ready-round _ (above e) (e .before .before .pre .1) (l .loop .inv .long) (l .loop .inv .bits), omega (arith, above e)),
       )
 
   reading-enum-told : Reading t reading-lts.Need-enum-told
   reading-enum-told c = search needs
 
-  reading-changed-requires : Reading t reading-lts.Need-changed-requires
-  reading-changed-requires c κs = search needs
+  reading-changed-requires-2 : Reading t reading-lts.Need-changed-requires-2
+  reading-changed-requires-2 c κs = search needs
 
-  reading-same-length-2 : Reading t reading-lts.Need-same-length-2
-  reading-same-length-2 c = search needs
+  reading-same-length-3 : Reading t reading-lts.Need-same-length-3
+  reading-same-length-3 c = search needs
 
-  reading-returns-2 : Reading t reading-lts.Need-returns-2
-  reading-returns-2 c = let e = c .before in
+  reading-returns-4 : Reading t reading-lts.Need-returns-4
+  reading-returns-4 c = let e = c .before in
       let r = e .before .before .before in
       let l = r .before .before .before in
-      changed-tells (c .changed .ensures) (turn-exhausted (l .loop .inv) (r .before .before .loop-test .taken) (r .round .ensures) (e .enum-told .given .1))
+      changed-tells (c .changed2 .ensures) (turn-exhausted (l .loop .inv) (r .before .before .loop-test .taken) (r .round .ensures) (e .enum-told .given .1))
 
   reading-enum-known-leaves : Reading t reading-lts.Need-enum-known-leaves
   reading-enum-known-leaves c = search needs
@@ -227,29 +245,29 @@ module _ (t : ℕ) where
         flips-bits (flipped f),
       )
 
-  reading-same-length-3 : Reading t reading-lts.Need-same-length-3
-  reading-same-length-3 c = search needs
+  reading-same-length-4 : Reading t reading-lts.Need-same-length-4
+  reading-same-length-4 c = search needs
 
-  reading-returns-3 : Reading t reading-lts.Need-returns-3
-  reading-returns-3 c = let s = c .before .settle .ensures in
+  reading-returns-5 : Reading t reading-lts.Need-returns-5
+  reading-returns-5 c = let s = c .before .settle .ensures in
       let f = flipped (c .before .before .before .before .before) in
-      let e = c .before .before .before .if2 .taken in
+      let e = c .before .before .before .if4 .taken in
       (flips-settled f e (s .0) (s .1 .0), record { same = λ q. flips-kept f e (s .1 .1 q) (s .1 .0) })
 
   reading-loop-less : Reading t reading-lts.Need-loop-less
   reading-loop-less c = search needs
 
   reading-loop-again : Reading t reading-lts.Need-loop-again
-  reading-loop-again c = flips-again (flipped (c .before .before)) (c .if2 .left)
+  reading-loop-again c = flips-again (flipped (c .before .before)) (c .if4 .left)
 
-  reading-changed-requires-2 : Reading t reading-lts.Need-changed-requires-2
-  reading-changed-requires-2 c κs = search needs
+  reading-changed-requires-3 : Reading t reading-lts.Need-changed-requires-3
+  reading-changed-requires-3 c κs = search needs
 
-  reading-same-length-4 : Reading t reading-lts.Need-same-length-4
-  reading-same-length-4 c = search needs
+  reading-same-length-5 : Reading t reading-lts.Need-same-length-5
+  reading-same-length-5 c = search needs
 
-  reading-returns-4 : Reading t reading-lts.Need-returns-4
-  reading-returns-4 c = changed-tells (c .changed2 .ensures) (turn-last (c .before .before .loop .inv) (c .before .loop-test .left))
+  reading-returns-6 : Reading t reading-lts.Need-returns-6
+  reading-returns-6 c = changed-tells (c .changed3 .ensures) (turn-last (c .before .before .loop .inv) (c .before .loop-test .left))
 
   -- ---- `round`
 
@@ -441,9 +459,14 @@ pub +reading+round-spec : {M : Type 1} → statement M
 +reading+round-spec =
     close μ-reading μ-round
     (λ t. reading-lts.spec (reading-given t) (reading-at t) reading.Post reading-Inv reading-μ
-    (reading-leaf-requires t)
+    (reading-zero-order-requires t)
     (reading-same-length t)
     (reading-returns t)
+    (reading-changed-requires t)
+    (reading-returns-2 t)
+    (reading-first-order-requires t)
+    (reading-same-length-2 t)
+    (reading-returns-3 t)
     (reading-size-requires t)
     (reading-loop-holds t)
     (reading-sub-round t)
@@ -451,21 +474,21 @@ pub +reading+round-spec : {M : Type 1} → statement M
     (reading-sub-round-3 t)
     (reading-round-requires t)
     (reading-enum-told t)
-    (reading-changed-requires t)
-    (reading-same-length-2 t)
-    (reading-returns-2 t)
+    (reading-changed-requires-2 t)
+    (reading-same-length-3 t)
+    (reading-returns-4 t)
     (reading-enum-known-leaves t)
     (reading-add-used t)
     (reading-add-k t)
     (reading-flip-requires t)
     (reading-settle-requires t)
-    (reading-same-length-3 t)
-    (reading-returns-3 t)
+    (reading-same-length-4 t)
+    (reading-returns-5 t)
     (reading-loop-less t)
     (reading-loop-again t)
-    (reading-changed-requires-2 t)
-    (reading-same-length-4 t)
-    (reading-returns-4 t))
+    (reading-changed-requires-3 t)
+    (reading-same-length-5 t)
+    (reading-returns-6 t))
     (λ t. round-lts.spec (round-given t) (round-at t) round.Post round-Inv round-μ
     (round-size-requires t)
     (round-mul-n t)
