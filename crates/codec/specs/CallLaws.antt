@@ -1,22 +1,23 @@
--- What passed checks say of a call's input, and the round trip of calls: what `encode` wrote, `read_message` gives back, and the other way
+-- A call's contract from its checks, and the round trip of calls: what `encode` wrote, `read_message` gives back, and the other way
 -- round. Assumes nothing.
-use Prim.Native.Nat.{ℕ, _^_, _<_}
+use Prim.Native.Nat.{ℕ}
 use native.Mathlib.Omega.{arith}
 use mathlib.Core.Path.{_≡_, refl, sym, ap, _∙_}
 use mathlib.Core.Bool.{Bool, true, false}
-use mathlib.Core.List.{List, _++_}
+use mathlib.Core.List.{List}
 use lib.ListN.{length}
-use borrow.Author.Tests.{eqb-true, ne-eqb}
+use borrow.Author.Tests.{ne-eqb}
 use Rattle.refusals.specs.declared.Refusal.{Refusal}
 use Rattle.refusals.specs.declared.Answer.{Answer}
 use Rattle.refusals.specs.declared.Answer.the-variants.{Done, Refused}
 use Rattle.refusals.specs.Refusals.{Check, Checked, numberOf, answerNumber, firstRefusal}
-use Rattle.refusals.specs.CheckLaws.{passed, IsCode, code-passed, bits-tested, number-pos, other-place}
-use Rattle.words.specs.Word.{bit, IsWord}
-use Rattle.code.specs.Code.{rank, dimension, codeword, codewordTest, messageOf}
+use Rattle.refusals.specs.CheckLaws.{passed, number-pos, other-place}
+use Rattle.code.specs.Code.{codeword, codewordTest, messageOf}
 use Rattle.code.specs.Codewords.{codeword-of-test}
 use Rattle.code.specs.MessageLaws.{message-codeword, codeword-message}
-use Rattle.codec.specs.Calls.{encodeChecks, wordChecks, testChecks, Calls, Encodes, Reads, Tests, testedNumber, verdict}
+use Rattle.codec_checks.specs.Checks.{testChecks}
+use Rattle.codec_checks.specs.Passed.{encode-passed, read-passed}
+use Rattle.codec.specs.Calls.{Calls, Encodes, Reads, Tests, testedNumber, verdict}
 use Rattle.codec.specs.declared.Tested.{Tested}
 
 -- ---- a call's contract, from its checks
@@ -50,58 +51,6 @@ test-refused {m} {r} {word} {a} {why} c e = record {
 
 pub test-done : {m r : ℕ} {word : List ℕ} {a : Tested} → 0 ≡ firstRefusal (testChecks m r word) → a ≡ verdict (codewordTest m r word) → Tests m r word a
 test-done {m} {r} {word} {a} e h = record { number = rw h (verdict-number (codewordTest m r word) ∙ e); place = λ p q. absurd (verdict-place (codewordTest m r word) (sym h ∙ q)); answer = λ z. h }
-
--- ---- what passed
-
--- k, as the code takes it
-pub rank-is : (m r : ℕ) {n k : ℕ} → k ≡ dimension m r → n ≡ 2 ^ m → k ≡ rank r n
-unfolding dimension
-rank-is m r e f = e ∙ ap (rank r) (sym f)
-
-pub record Encodable (m r : ℕ) (message : List ℕ) (room : ℕ) : Type 0 where
-  pub code : IsCode m r
-  pub size : length message ≡ dimension m r
-  pub room-size : room ≡ 2 ^ m
-  pub bits : (i : ℕ) → bit message i < 2
-
-pub encode-passed : (m r : ℕ) (message : List ℕ) (room : ℕ) → firstRefusal (encodeChecks m r message room) ≡ 0 → Encodable m r message room
-encode-passed m r message room e =
-    let (code, rest) = code-passed m r _ e in
-    let c5 = passed 4 _ _ rest in
-    let c6 = passed 5 _ _ (c5 .1) in
-    record {
-      code = code;
-      size = eqb-true (length message) (dimension m r) (c5 .0);
-      room-size = eqb-true room (2 ^ m) (c6 .0);
-      bits = bits-tested message (passed 7 _ _ (c6 .1) .0);
-    }
-
-pub record Readable (m r : ℕ) (word : List ℕ) (room : ℕ) : Type 0 where
-  pub code : IsCode m r
-  pub word-is : IsWord m word
-  pub room-size : room ≡ dimension m r
-
--- also of the checks with 13 after them
-pub read-passed : (m r : ℕ) (word : List ℕ) (room : ℕ) (cs : List Check) → firstRefusal (wordChecks m r word room ++ cs) ≡ 0
-    → Readable m r word room × (firstRefusal cs ≡ 0)
-read-passed m r word room cs e =
-    let (code, rest) = code-passed m r _ e in
-    let c5 = passed 4 _ _ rest in
-    let c6 = passed 5 _ _ (c5 .1) in
-    let c8 = passed 7 _ _ (c6 .1) in (
-      record {
-        code = code;
-        word-is = record { size = eqb-true (length word) (2 ^ m) (c5 .0); bits = bits-tested word (c8 .0) };
-        room-size = eqb-true room (dimension m r) (c6 .0);
-      },
-      c8 .1,
-    )
-
-pub test-passed : (m r : ℕ) (word : List ℕ) → firstRefusal (testChecks m r word) ≡ 0 → IsCode m r × IsWord m word
-test-passed m r word e =
-    let (code, rest) = code-passed m r _ e in
-    let c5 = passed 4 _ _ rest in
-    (code, record { size = eqb-true (length word) (2 ^ m) (c5 .0); bits = bits-tested word (passed 7 _ _ (c5 .1) .0) })
 
 -- ---- the round trip of calls
 

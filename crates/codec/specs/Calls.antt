@@ -1,32 +1,17 @@
 -- What the calls of the encoder, the message reader and the codeword test promise. Assumes nothing.
-use Prim.Native.Nat.{ℕ, _^_}
+use Prim.Native.Nat.{ℕ}
 use mathlib.Core.Path.{_≡_}
 use mathlib.Core.Bool.{Bool, true, false, cond}
-use mathlib.Core.List.{List, [], _∷_, _++_}
+use mathlib.Core.List.{List}
 use lib.ListN.{length}
 use lib.Dec.{eqb}
 use Rattle.refusals.specs.declared.Refusal.the-variants.{BadByte}
 use Rattle.refusals.specs.declared.Answer.{Answer}
-use Rattle.refusals.specs.Refusals.{numberOf, answerNumber, IsBadPlace, Named, Check, check, firstRefusal, codeChecks, byteChecks}
-use Rattle.code.specs.Code.{dimension, codeword, codewordTest, messageOf}
+use Rattle.refusals.specs.Refusals.{numberOf, answerNumber, IsBadPlace, Named, Check, firstRefusal}
+use Rattle.code.specs.Code.{codeword, codewordTest, messageOf}
+use Rattle.codec_checks.specs.Checks.{encodeChecks, readChecks, testChecks}
 use Rattle.codec.specs.declared.Tested.{Tested}
 use Rattle.codec.specs.declared.Tested.the-variants.{Codeword, NotCodeword, Refused}
-
--- "Encoder and message reader use 1, 2, 5, 6, 8, and the latter then 13. The codeword test uses 1, 2, 5, 8."
--- "5: input is not n long (encoder: not k). 6: output is not n long (message reader: not k)."
-abbrev pub encodeChecks : ℕ → ℕ → List ℕ → ℕ → List Check
-encodeChecks m r message room =
-    codeChecks m r ++ (check 5 (eqb (length message) (dimension m r)) ∷ check 6 (eqb room (2 ^ m)) ∷ byteChecks message)
-
-abbrev pub wordChecks : ℕ → ℕ → List ℕ → ℕ → List Check
-wordChecks m r word room =
-    codeChecks m r ++ (check 5 (eqb (length word) (2 ^ m)) ∷ check 6 (eqb room (dimension m r)) ∷ byteChecks word)
-
-abbrev pub readChecks : ℕ → ℕ → List ℕ → ℕ → List Check
-readChecks m r word room = wordChecks m r word room ++ (check 13 (codewordTest m r word) ∷ [])
-
-abbrev pub testChecks : ℕ → ℕ → List ℕ → List Check
-testChecks m r word = codeChecks m r ++ (check 5 (eqb (length word) (2 ^ m)) ∷ byteChecks word)
 
 -- "Every refusal leaves the output untouched."
 abbrev pub outputOf : ℕ → List ℕ → List ℕ → List ℕ

@@ -24,8 +24,9 @@ use Rattle.rule.specs.Decoding.{decodeProfileOf}
 use Rattle.lines.specs.Lines.{cutLine, refusedLine, Entry, entry, entryFor, recordEntry}
 use Rattle.text.specs.Texts.{Appended}
 use Rattle.text.specs.TextLaws.{appended-within}
-use Rattle.records.specs.declared.Line.{Line}
-use Rattle.records.specs.Steps.{Decodable, Lined, lineIn, okIn}
+use Rattle.accepted.specs.declared.Line.{Line}
+use Rattle.accepted.specs.Accepted.{Lined, lineIn, okIn}
+use Rattle.records.specs.Decodable.{Decodable}
 use Rattle.pieces.specs.Listing.{linesOf, acceptedOf}
 use Rattle.pieces.specs.Pieces.{entries}
 use Rattle.pieces.specs.Steps.{Stepped}

@@ -1,29 +1,12 @@
 // The line of what stands at the start of a part of a capture.
-ghost use mathlib.Core.Bool.{cond};
 ghost use mathlib.Core.Path.{_≡_};
 ghost use Prim.Native.Nat.{_+_, _*_, _≤_};
 ghost use lib.ListN.{length};
-ghost use lib.Dec.{eqb};
-ghost use Rattle.refusals.specs.Refusals.{numberOf};
 ghost use Rattle.capture.specs.Body.{bodyLength};
-ghost use Rattle.text.specs.Texts.{Appended};
-ghost use Rattle.lines.specs.Lines.{cutLine, refusedLine};
 ghost use Rattle.pieces.specs.Steps.{Stepped};
 use capture::Found;
+use notices::refusal_line;
 use pieces::Listed;
-use refusals::Refusal;
-
-// The line of a refusal of the capture reader: 16 has ten hyphens for the serial.
-fn refusal_line(why: Refusal, serial: u32, out: &mut [u8], at: usize) -> usize
-    requires { ⌜ at + 36 ≤ length (now out) ⌝ }
-    ensures { λ end. ⌜ Appended (now (out .entry)) at (cond (eqb (numberOf why) 16) cutLine (refusedLine serial (numberOf why))) end (now (out .exit)) ⌝ }
-{
-    let number = refusals::number(why);
-    if number == 16 {
-        return lines::cut_line(out, at);
-    }
-    lines::refused_line(serial, number, out, at)
-}
 
 // The line of what stands at the start of the part, by way of a word buffer of its size. 14, 16 and no byte left end the listing.
 fn list_found(part: &[u8], word: &mut [u8], out: &mut [u8], at: usize, area: &mut [i32]) -> Listed

@@ -1,4 +1,3 @@
 -- All are laws; Joins is the whole listing, piece by piece.
-pub mod PutLaws
 pub mod PartLaws
 pub mod Joins

@@ -1,7 +1,6 @@
 // The meter listing, a part of a capture at a time.
 ghost use lib.ListN.{length};
-ghost use Rattle.lines.specs.Lines.{headerLine, lastLine};
-ghost use Rattle.pieces.specs.Pieces.{Lists, Puts, Turn};
+ghost use Rattle.pieces.specs.Pieces.{Lists, Turn};
 use pieces::Listed;
 
 // Lists a part of a capture that starts at a record: of the records that are whole in it, as many as have room in the output. `last`
@@ -35,24 +34,4 @@ pub fn list_held(held: &mut [u8], last: bool, out: &mut [u8], area: &mut [i32]) 
     let from = d.consumed;
     pieces::move_down(held, from);
     d
-}
-
-// The last line, in an output of at least 60 bytes. Answers its length.
-pub fn last_line(records: u64, accepted: u64, out: &mut [u8]) -> usize
-    ensures { λ end. ⌜ Puts 60 (lastLine records accepted) (now (out .entry)) end (now (out .exit)) ⌝ }
-{
-    if out.len() < 60 {
-        return 0;
-    }
-    lines::last_line(records, accepted, out, 0)
-}
-
-// All that is printed of a capture with a wrong header, in an output of at least 16 bytes. Answers its length.
-pub fn header_line(out: &mut [u8]) -> usize
-    ensures { λ end. ⌜ Puts 16 headerLine (now (out .entry)) end (now (out .exit)) ⌝ }
-{
-    if out.len() < 16 {
-        return 0;
-    }
-    lines::header_line(out, 0)
 }

@@ -1,3 +1,3 @@
--- What the functions ask and promise: Steps. RecordLaws has the laws.
-pub mod Steps
+-- What the functions ask: Decodable. RecordLaws has the laws.
+pub mod Decodable
 pub mod RecordLaws

@@ -9,7 +9,9 @@ use Rattle.refusals.specs.Refusals.{answerNumber, Checked}
 use Rattle.words.specs.Sum.{tabulate}
 use Rattle.words.specs.Word.{IsWord}
 use Rattle.code.specs.Code.{spread}
-use Rattle.codec.specs.CallLaws.{Encodable, encode-passed, rank-is, call-refused, call-done}
+use Rattle.codec_checks.specs.Passed.{Encodable, encode-passed}
+use Rattle.reader.specs.Ranks.{rank-is}
+use Rattle.codec.specs.CallLaws.{call-refused, call-done}
 use Rattle.coefficients.specs.Transformed.{coefficients, spread-word, spread-coefficients}
 use Rattle.codec.proofs.encode.Statement.{statement}
 use Rattle.codec.proofs.encode.Tie as tie

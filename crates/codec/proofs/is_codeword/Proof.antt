@@ -9,8 +9,10 @@ use Rattle.refusals.specs.Refusals.{answerNumber, firstRefusal}
 use Rattle.refusals.specs.CheckLaws.{IsCode}
 use Rattle.words.specs.Parts.{front-length}
 use Rattle.words.specs.Word.{IsWord}
-use Rattle.codec.specs.Calls.{testChecks, verdict}
-use Rattle.codec.specs.CallLaws.{test-passed, test-refused, test-done}
+use Rattle.codec_checks.specs.Checks.{testChecks}
+use Rattle.codec_checks.specs.Passed.{test-passed}
+use Rattle.codec.specs.Calls.{verdict}
+use Rattle.codec.specs.CallLaws.{test-refused, test-done}
 use Rattle.codec.proofs.is_codeword.Statement.{statement}
 use Rattle.codec.proofs.is_codeword.Tie as tie
 

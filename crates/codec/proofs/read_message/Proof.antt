@@ -11,8 +11,9 @@ use Rattle.refusals.specs.Refusals.{answerNumber, check, firstRefusal}
 use Rattle.refusals.specs.CheckLaws.{then, passes, fails, no-more, refuses, stops-at}
 use Rattle.words.specs.Parts.{front-length}
 use Rattle.code.specs.Code.{codewordTest}
-use Rattle.codec.specs.Calls.{readChecks}
-use Rattle.codec.specs.CallLaws.{Readable, read-passed, call-refused, call-done}
+use Rattle.codec_checks.specs.Checks.{readChecks}
+use Rattle.codec_checks.specs.Passed.{Readable, read-passed}
+use Rattle.codec.specs.CallLaws.{call-refused, call-done}
 use Rattle.codec.proofs.read_message.Statement.{statement}
 use Rattle.codec.proofs.read_message.Tie as tie
 

@@ -1,0 +1,2 @@
+-- PutLaws has laws.
+pub mod PutLaws

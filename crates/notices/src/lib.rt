@@ -1,0 +1,42 @@
+// The lines in which no word is decoded: of a wrong header, of a refusal of the capture reader, and the last.
+ghost use mathlib.Core.Bool.{cond};
+ghost use Prim.Native.Nat.{_+_, _≤_};
+ghost use lib.ListN.{length};
+ghost use lib.Dec.{eqb};
+ghost use Rattle.refusals.specs.Refusals.{numberOf};
+ghost use Rattle.text.specs.Texts.{Appended};
+ghost use Rattle.lines.specs.Lines.{cutLine, headerLine, lastLine, refusedLine};
+ghost use Rattle.pieces.specs.Pieces.{Puts};
+use refusals::Refusal;
+
+// The line of a refusal of the capture reader: 16 has ten hyphens for the serial.
+pub fn refusal_line(why: Refusal, serial: u32, out: &mut [u8], at: usize) -> usize
+    requires { ⌜ at + 36 ≤ length (now out) ⌝ }
+    ensures { λ end. ⌜ Appended (now (out .entry)) at (cond (eqb (numberOf why) 16) cutLine (refusedLine serial (numberOf why))) end (now (out .exit)) ⌝ }
+{
+    let number = refusals::number(why);
+    if number == 16 {
+        return lines::cut_line(out, at);
+    }
+    lines::refused_line(serial, number, out, at)
+}
+
+// The last line, in an output of at least 60 bytes. Answers its length.
+pub fn last_line(records: u64, accepted: u64, out: &mut [u8]) -> usize
+    ensures { λ end. ⌜ Puts 60 (lastLine records accepted) (now (out .entry)) end (now (out .exit)) ⌝ }
+{
+    if out.len() < 60 {
+        return 0;
+    }
+    lines::last_line(records, accepted, out, 0)
+}
+
+// All that is printed of a capture with a wrong header, in an output of at least 16 bytes. Answers its length.
+pub fn header_line(out: &mut [u8]) -> usize
+    ensures { λ end. ⌜ Puts 16 headerLine (now (out .entry)) end (now (out .exit)) ⌝ }
+{
+    if out.len() < 16 {
+        return 0;
+    }
+    lines::header_line(out, 0)
+}

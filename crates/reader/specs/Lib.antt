@@ -1,0 +1,2 @@
+-- Ranks has a law.
+pub mod Ranks
