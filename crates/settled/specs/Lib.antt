@@ -1,4 +1,3 @@
--- Definitions: Numbers. Laws: NumberLaws, Fours.
+-- Definitions: Numbers. Laws: NumberLaws.
 pub mod Numbers
 pub mod NumberLaws
-pub mod Fours

@@ -1,23 +1,19 @@
 -- The codeword test of a word in the area of numbers: its coefficients by halves. Assumes nothing.
-use Prim.Native.Nat.{ℕ, _+_, _-_, _%_, _^_, _≤_, _<_}
+use Prim.Native.Nat.{ℕ, _+_, _-_, _^_, _≤_, _<_}
 use mathlib.Core.Bool.{Bool, true, cond}
 use mathlib.Core.Path.{_≡_, refl, sym, ap, _∙_}
 use mathlib.Core.List.{List}
 use mathlib.Core.Logic.{⊎-elim}
-use native.Mathlib.Nat.{add-comm}
 use native.Mathlib.Omega.{arith}
 use borrow.Rule.Slice.PartMut.{putMid}
-use lib.Bits.{bitXor}
 use lib.Dec.{eqb, leb}
 use lib.IntN.{ℤ, pos, natAbs}
 use lib.Pow.{pow-mono}
-use lib.ListN.{length, set, take, drop, List·getD-eq-default}
-use mir.Syntax.{w32}
-use mir.Val.{toZ, ofZ}
-use Rattle.area.specs.Area.{at, Bits, IsBit, zero-bit, wordOf}
-use Rattle.area.specs.AreaLaws.{bit-lt, bits-xor, bit-wordOf, is-bit, wordOf-word}
-use Rattle.words.specs.Butterflies.{Rule, Entries, halved}
-use Rattle.words.specs.ButterflyLaws.{halved-entries, PairsDone, pair-room, pairs-second}
+use lib.ListN.{length, take, drop, List·getD-eq-default}
+use Rattle.area.specs.Area.{at, Bits, zero-bit, wordOf}
+use Rattle.area.specs.AreaLaws.{bit-lt, bit-wordOf, wordOf-word}
+use Rattle.words.specs.Butterflies.{Entries, halved}
+use Rattle.words.specs.ButterflyLaws.{halved-entries}
 use Rattle.words.specs.SumLaws.{all-ext, le-or-lt}
 use Rattle.words.specs.Word.{bit}
 use Rattle.words.specs.Parts.{part-at, part-length, back-length, back-below, back-part}
@@ -25,33 +21,12 @@ use Rattle.words.specs.Written.{Written}
 use Rattle.code.specs.Code.{codewordTest, coefficient, degree, lowTest}
 use Rattle.code.specs.Degree.{coef}
 use Rattle.settled.specs.Numbers.{TestedIn}
-use Rattle.coefficients.specs.TransformLaws.{sum-bit, transform-coef}
+use Rattle.coefficients.specs.TransformLaws.{transform-coef}
+use Rattle.parities.specs.Parities.{numberParities}
 
 -- the absolute value of the number at a place
 abbrev pub sizeAt : List ℤ → ℕ → ℕ
 sizeAt xs p = natAbs (at xs p)
-
--- words of numbers
-unfoldable pub numberParities : Rule ℤ
-numberParities = record {
-  none = pos 0;
-  low = λ x y. x;
-  high = λ x y. pos ((natAbs x + natAbs y) % 2);
-  Room = λ j x. IsBit x;
-  room-none = λ j. zero-bit;
-  room-low = λ j x y hx hy. hx;
-  room-high = λ j x y hx hy. is-bit _ (sum-bit (natAbs x) (natAbs y));
-  room-less = λ j k x l h. h;
-}
-
--- a turn of the loop over the pairs, as the code computes it
-pub numbers-added :
-    {h i : ℕ} {a₀ a : List ℤ} → PairsDone numberParities h i a₀ a → i < h → Entries numberParities (h + h) 1 a₀
-    → PairsDone numberParities h (i + 1) a₀ (set a (h + i) (toZ w32 (bitXor (ofZ w32 (at a (h + i))) (ofZ w32 (at a i)))))
-unfolding numberParities
-numbers-added {h} {i} {a₀} {a} d l e =
-    let b = pair-room numberParities d l (e .room) in
-    pairs-second numberParities d l (e .size) _ refl (bits-xor (b .1) (b .0) ∙ ap (λ (n : ℕ). pos (n % 2)) (add-comm _ _))
 
 -- a holds the word that is in the front of xs
 module _ (m : ℕ) (xs a : List ℤ) (b : Bits (2 ^ m) xs) (size : length a ≡ 2 ^ m) (same : (p : ℕ) → p < 2 ^ m → at a p ≡ at xs p) where

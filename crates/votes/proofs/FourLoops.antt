@@ -14,7 +14,7 @@ use Rattle.area.specs.Area.{at, wordOf}
 use Rattle.area.specs.Numbers.{Half}
 use Rattle.direction.specs.Direction.{cosetOf, project}
 use Rattle.cosets.specs.Votes.{Tally, InProjection, castVote}
-use Rattle.votes.specs.FourVotes.{FourVotes, fourVote, FourVoted}
+use Rattle.four_votes.specs.FourVotes.{FourVotes, fourVote, FourVoted}
 use Rattle.projections.specs.FourLaws.{four-lt, blocks-apart}
 use Rattle.cosets.proofs.Turns.{direction-lt, number-one, number-two, only-members}
 use Rattle.cosets.proofs.VoteLoops.{VotedBelow}

@@ -1,8 +1,8 @@
--- `settled::four` meets its contract: all four numbers are read before the first is set. Assumes nothing.
+-- `parities::four` meets its contract: all four numbers are read before the first is set. Assumes nothing.
 use borrow.Author.Needs.{needs}
-use Rattle.settled.specs.Fours.{four-added}
-use Rattle.settled.proofs.four.Statement.{statement}
-use Rattle.settled.proofs.four.Tie as tie
+use Rattle.parities.specs.Fours.{four-added}
+use Rattle.parities.proofs.four.Statement.{statement}
+use Rattle.parities.proofs.four.Tie as tie
 
 slice-copy-out-x0 : tie.Need-slice-copy-out-x0
 slice-copy-out-x0 c = search needs

@@ -14,7 +14,7 @@ use Rattle.words.specs.Written.{Written}
 use Rattle.words.specs.Xor.{xor-twice}
 use Rattle.area.specs.Area.{at}
 use Rattle.area.specs.Numbers.{stored, sum-fits, sum-stored}
-use Rattle.votes.specs.FourVotes.{addend, Addends}
+use Rattle.four_votes.specs.FourVotes.{addend, Addends}
 use Rattle.projections.specs.FourLaws.{by-four, four-lt, four-apart}
 
 module _ {l : ℕ} {a b c d : ℤ} {xs : List ℤ} (t : Addends l a b c d xs) where

@@ -10,7 +10,7 @@ use mir.Val.{toZ, ofZ}
 use Rattle.area.specs.Area.{at, IsBit}
 use Rattle.area.specs.AreaLaws.{bits-xor, is-bit, xor-stored}
 use Rattle.coefficients.specs.TransformLaws.{sum-bit}
-use Rattle.settled.specs.NumberLaws.{numberParities}
+use Rattle.parities.specs.Parities.{numberParities}
 use Rattle.words.specs.Butterflies.{Entries, halved}
 use Rattle.words.specs.ButterflyLaws.{set-three}
 

@@ -1,4 +1,4 @@
--- `settled::transform` meets its contract: each level transforms blocks of twice the size. Assumes nothing.
+-- `parities::transform` meets its contract: each level transforms blocks of twice the size. Assumes nothing.
 use Prim.Native.Nat.{_-_, _^_}
 use mathlib.Core.List.{List}
 use native.Mathlib.Omega.{arith}
@@ -6,9 +6,9 @@ use lib.IntN.{ℤ}
 use Rattle.words.specs.Butterflies.{Entries}
 use Rattle.words.specs.ButterflyLaws.{halved-zero, halved-at}
 use Rattle.words.specs.Levels.{Transformed, whole-blocks, transformed-blocks, transformed-length, transformed-all, next-level, level-done}
-use Rattle.settled.specs.NumberLaws.{numberParities}
-use Rattle.settled.proofs.transform.Statement.{statement}
-use Rattle.settled.proofs.transform.Tie as tie
+use Rattle.parities.specs.Parities.{numberParities}
+use Rattle.parities.proofs.transform.Statement.{statement}
+use Rattle.parities.proofs.transform.Tie as tie
 
 abbrev Inv-loop : tie.InvT-loop
 Inv-loop a₀ m h₀ a h = (x : List ℤ) → Entries numberParities (2 ^ m) m x → Transformed numberParities m 4 x a₀ → Transformed numberParities m h x a

@@ -19,7 +19,7 @@ use Rattle.area.specs.AreaLaws.{bit-back}
 use Rattle.area.specs.Numbers.{stored, Half}
 use Rattle.area.specs.Places.{Places, index-fits, places}
 use Rattle.projections.specs.Fours.{bitSum, pairSum}
-use Rattle.votes.specs.FourVotes.{addend, Addends, FourVotes, fourVote, FourVoted}
+use Rattle.four_votes.specs.FourVotes.{addend, Addends, FourVotes, fourVote, FourVoted}
 use Rattle.projections.specs.FourLaws.{by-four, four-lt}
 use Rattle.projections.proofs.FourParts.{four, four-length, four-at, four-sum, sum-bit}
 

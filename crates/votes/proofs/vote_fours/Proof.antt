@@ -1,4 +1,4 @@
--- `votes::fours::vote_fours` meets its contract: a turn adds the votes of four cosets at both members. Assumes nothing.
+-- `votes::vote_fours` meets its contract: a turn adds the votes of four cosets at both members. Assumes nothing.
 use Prim.Native.Nat.{_+_, _-_, _%_, _^_, _≤_}
 use mathlib.Core.Path.{_≡_}
 use native.Mathlib.Omega.{arith}
@@ -7,8 +7,8 @@ use Rattle.cosets.proofs.Turns.{number-le}
 use Rattle.cosets.proofs.VoteLoops.{VotedBelow, voted-none, voted-all}
 use Rattle.projections.proofs.FourTurns.{highest-le, block-room}
 use Rattle.votes.proofs.FourLoops.{VoteTurn, four-asks, voted-four}
-use Rattle.votes.proofs.fours.vote_fours.Statement.{statement}
-use Rattle.votes.proofs.fours.vote_fours.Tie as tie
+use Rattle.votes.proofs.vote_fours.Statement.{statement}
+use Rattle.votes.proofs.vote_fours.Tie as tie
 
 abbrev Inv-loop : tie.InvT-loop
 Inv-loop m h w l area₀ n q₀ area q = (q ≤ 2 ^ m) × (q % 4 ≡ 0) × VotedBelow m (w + l) area₀ q area

@@ -1,9 +1,9 @@
--- `votes::fours::add_four` meets its contract: all four entries are read before the first is set. Assumes nothing.
+-- `four_votes::add_four` meets its contract: all four entries are read before the first is set. Assumes nothing.
 use borrow.Author.Needs.{needs}
 use native.Mathlib.Omega.{arith}
-use Rattle.votes.proofs.FourAdds.{index-fits, index-lt, new-fits, room-1, room-2, room-3, four-added}
-use Rattle.votes.proofs.fours.add_four.Statement.{statement}
-use Rattle.votes.proofs.fours.add_four.Tie as tie
+use Rattle.four_votes.proofs.FourAdds.{index-fits, index-lt, new-fits, room-1, room-2, room-3, four-added}
+use Rattle.four_votes.proofs.add_four.Statement.{statement}
+use Rattle.four_votes.proofs.add_four.Tie as tie
 
 mul-a0 : tie.Need-mul-a0
 mul-a0 c = search needs

@@ -1,14 +1,14 @@
--- `settled::fours` meets its contract: a turn does one block. Assumes nothing.
+-- `parities::fours` meets its contract: a turn does one block. Assumes nothing.
 use Prim.Native.Nat.{_-_}
 use native.Mathlib.Omega.{arith}
 use lib.ListN.{length}
 use Rattle.words.specs.Butterflies.{halved, BlocksDone}
 use Rattle.words.specs.Blocks.{blocks-none, block-fits, block-lent, block-back, blocks-all}
 use Rattle.words.specs.Levels.{halved-keeps}
-use Rattle.settled.specs.NumberLaws.{numberParities}
+use Rattle.parities.specs.Parities.{numberParities}
 use borrow.Author.Needs.{needs}
-use Rattle.settled.proofs.fours.Statement.{statement}
-use Rattle.settled.proofs.fours.Tie as tie
+use Rattle.parities.proofs.fours.Statement.{statement}
+use Rattle.parities.proofs.fours.Tie as tie
 
 abbrev Inv-loop : tie.InvT-loop
 Inv-loop a₀ n b₀ a b = BlocksDone (halved numberParities 2) 4 b a₀ a

@@ -1,15 +1,13 @@
-// Votes by blocks of 4 cosets, for directions from 4 on: the low digits l of the direction, b = w + l, only exchange
-// the places of a block. The loop tests q != n: of q < n, n a power of 2, the compiler makes a shift in every turn.
+// The votes of a block of 4 cosets: the low digits l of the direction only exchange the places of a block.
 ghost use mathlib.Core.Path.{_≡_};
-ghost use Prim.Native.Nat.{suc, _+_, _^_, _<_};
+ghost use Prim.Native.Nat.{_<_};
 ghost use lib.ListN.{length};
 ghost use lib.Bits.{bitXor};
 ghost use lib.IntN.{pos, _+ℤ_};
 ghost use Rattle.words.specs.Written.{Written};
 ghost use Rattle.area.specs.Area.{at, IsBit};
-ghost use Rattle.cosets.specs.Votes.{Projects, Tally, InProjection, castVote};
-ghost use Rattle.projections.specs.Fours.{InFours, bitSum, BitPair};
-ghost use Rattle.votes.specs.FourVotes.{addend, Addends, FourVotes, FourVoted};
+ghost use Rattle.projections.specs.Fours.{bitSum, BitPair};
+ghost use Rattle.four_votes.specs.FourVotes.{addend, Addends, FourVotes, FourVoted};
 
 // Adds v0 to v3 to the four votes at 0 XOR l to 3 XOR l.
 fn add_four(part: &mut [i32], l: usize, v0: i32, v1: i32, v2: i32, v3: i32)
@@ -36,7 +34,7 @@ fn vote(d: &[i32], x: &[i32], y: &[i32], i: usize, l: usize) -> i32
 }
 
 // Adds the votes of the cosets q to q + 3, whose members are the blocks at p and z.
-fn vote_four(area: &mut [i32], n: usize, q: usize, p: usize, z: usize, l: usize)
+pub fn vote_four(area: &mut [i32], n: usize, q: usize, p: usize, z: usize, l: usize)
     requires { ⌜ FourVotes n q p z l (now area) ⌝ }
     ensures { λ _. ⌜ FourVoted n q p z l (now (area .entry)) (now (area .exit)) ⌝ }
 {
@@ -52,21 +50,4 @@ fn vote_four(area: &mut [i32], n: usize, q: usize, p: usize, z: usize, l: usize)
     add_four(&mut area[r..r + 4], 0, v0, v1, v2, v3);
     let s = 2 * n + z;
     add_four(&mut area[s..s + 4], l, v0, v1, v2, v3);
-}
-
-// Adds the votes of the direction w + l.
-pub fn vote_fours(m: usize, h: usize, w: usize, l: usize, area: &mut [i32])
-    requires { ⌜ InFours h w l ⌝ }
-    requires { ⌜ Projects m (w + l) (now area) ⌝ }
-    requires { ⌜ Tally (2 ^ suc m) (w + l) (now area) ⌝ }
-    requires { ⌜ InProjection m (now area) ⌝ }
-    ensures { λ _. ⌜ Written (pos 0) (2 ^ suc m) (2 ^ suc m) (λ p. at (now (area .entry)) (2 ^ suc m + p) +ℤ pos (castVote m (w + l) (now (area .entry)) p)) (now (area .entry)) (now (area .exit)) ⌝ }
-{
-    let n = words::size(m);
-    let mut q = 0;
-    while q != n {
-        let p = direction::insert_zero(h, q);
-        vote_four(area, n, q, p, p ^ w, l);
-        q += 4;
-    }
 }

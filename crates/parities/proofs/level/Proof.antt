@@ -1,14 +1,14 @@
--- `settled::level` meets its contract: a turn does one block. Assumes nothing.
+-- `parities::level` meets its contract: a turn does one block. Assumes nothing.
 use Prim.Native.Nat.{_+_, _-_}
 use native.Mathlib.Omega.{arith}
 use lib.ListN.{length}
 use Rattle.words.specs.Butterflies.{butterflies, BlocksDone}
 use Rattle.words.specs.Blocks.{blocks-none, block-fits, block-lent, block-back, blocks-all}
 use Rattle.words.specs.Levels.{butterflies-keep}
-use Rattle.settled.specs.NumberLaws.{numberParities}
+use Rattle.parities.specs.Parities.{numberParities}
 use borrow.Author.Needs.{needs}
-use Rattle.settled.proofs.level.Statement.{statement}
-use Rattle.settled.proofs.level.Tie as tie
+use Rattle.parities.proofs.level.Statement.{statement}
+use Rattle.parities.proofs.level.Tie as tie
 
 abbrev Inv-loop : tie.InvT-loop
 Inv-loop a₀ h n s b₀ a b = BlocksDone (butterflies numberParities h) (h + h) b a₀ a

@@ -1,10 +1,10 @@
--- `settled::two` meets its contract. Assumes nothing.
+-- `parities::two` meets its contract. Assumes nothing.
 use mathlib.Core.Path.{_∙_}
 use Rattle.words.specs.ButterflyLaws.{halved-one}
-use Rattle.settled.specs.NumberLaws.{numberParities}
+use Rattle.parities.specs.Parities.{numberParities}
 use borrow.Author.Needs.{needs}
-use Rattle.settled.proofs.two.Statement.{statement}
-use Rattle.settled.proofs.two.Tie as tie
+use Rattle.parities.proofs.two.Statement.{statement}
+use Rattle.parities.proofs.two.Tie as tie
 
 butterfly-requires : tie.Need-butterfly-requires
 butterfly-requires c κs = search needs

@@ -1,11 +1,11 @@
--- `votes::fours::vote` meets its contract: exclusive or of two bits is their sum. Assumes nothing.
+-- `four_votes::vote` meets its contract: exclusive or of two bits is their sum. Assumes nothing.
 use borrow.Author.Needs.{needs}
 use lib.Bits.{bitXor}
 use Rattle.area.specs.Area.{at}
 use Rattle.area.specs.AreaLaws.{bits-xor}
 use Rattle.projections.proofs.FourParts.{sum-bit}
-use Rattle.votes.proofs.fours.vote.Statement.{statement}
-use Rattle.votes.proofs.fours.vote.Tie as tie
+use Rattle.four_votes.proofs.vote.Statement.{statement}
+use Rattle.four_votes.proofs.vote.Tie as tie
 
 mul-result : tie.Need-mul-result
 mul-result c = search needs

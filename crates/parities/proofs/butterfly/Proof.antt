@@ -1,11 +1,11 @@
--- `settled::butterfly` meets its contract: a turn does one pair. Assumes nothing.
+-- `parities::butterfly` meets its contract: a turn does one pair. Assumes nothing.
 use Prim.Native.Nat.{_-_, _≤_}
 use native.Mathlib.Omega.{arith}
 use borrow.Author.Needs.{needs}
 use Rattle.words.specs.ButterflyLaws.{PairsDone, pairs-none, pairs-all}
-use Rattle.settled.specs.NumberLaws.{numberParities, numbers-added}
-use Rattle.settled.proofs.butterfly.Statement.{statement}
-use Rattle.settled.proofs.butterfly.Tie as tie
+use Rattle.parities.specs.Parities.{numberParities, numbers-added}
+use Rattle.parities.proofs.butterfly.Statement.{statement}
+use Rattle.parities.proofs.butterfly.Tie as tie
 
 abbrev Inv-loop : tie.InvT-loop
 Inv-loop a₀ h i₀ a i = (i ≤ h) × PairsDone numberParities h i a₀ a

@@ -1,11 +1,11 @@
--- `votes::fours::vote_four` meets its contract: the four votes are taken before the first is added. Assumes nothing.
+-- `four_votes::vote_four` meets its contract: the four votes are taken before the first is added. Assumes nothing.
 use lib.Dec.{lit<}
 use lib.ListN.{length}
 use Rattle.area.specs.Numbers.{stored}
 use Rattle.projections.proofs.FourParts.{four-pair}
-use Rattle.votes.proofs.FourCasts.{Rooms, Casts, vote-rooms, decoded-lt, casts, first-adds, room-two, second-adds, four-voted}
-use Rattle.votes.proofs.fours.vote_four.Statement.{statement}
-use Rattle.votes.proofs.fours.vote_four.Tie as tie
+use Rattle.four_votes.proofs.FourCasts.{Rooms, Casts, vote-rooms, decoded-lt, casts, first-adds, room-two, second-adds, four-voted}
+use Rattle.four_votes.proofs.vote_four.Statement.{statement}
+use Rattle.four_votes.proofs.vote_four.Tie as tie
 
 rooms : (c : tie.Start) → Rooms (c .args .n) (c .args .q) (c .args .p) (c .args .z) (length (c .args .area .now))
 rooms c = vote-rooms (c .pre) (c .good .0 .1)

@@ -1,0 +1,3 @@
+-- The rule of the sums: Parities. Fours has laws.
+pub mod Parities
+pub mod Fours
