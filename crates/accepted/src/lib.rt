@@ -5,7 +5,7 @@ ghost use lib.ListN.{length};
 ghost use Rattle.profiles.specs.Profiles.{profileOf};
 ghost use Rattle.code.specs.Code.{dimension, messageOf};
 ghost use Rattle.lines.specs.Lines.{acceptedLine, entry};
-ghost use Rattle.text.specs.Texts.{Appended};
+ghost use Rattle.text.specs.Texts.{Appended, Bits};
 ghost use Rattle.accepted.specs.Accepted.{AcceptedWord, Lined, Readable};
 
 // Where a line ends, and 1 where its record was accepted.
@@ -24,6 +24,17 @@ fn message_bits(profile: usize) -> usize
     MESSAGE_BITS[profile]
 }
 
+// The line of a record with that message.
+fn put_accepted(serial: u32, message: &[u8], out: &mut [u8], at: usize) -> usize
+    requires { ⌜ Bits (now message) × (length (now message) ≤ 1024) × (at + length (acceptedLine serial (now message)) ≤ length (now out)) ⌝ }
+    ensures { λ end. ⌜ Appended (now (out .entry)) at (acceptedLine serial (now (message .entry))) end (now (out .exit)) ⌝ }
+{
+    let a = text::put_ten(serial, out, at);
+    let b = text::put_byte(32, out, a);
+    let c = hex::put_hex(message, out, b);
+    text::put_byte(10, out, c)
+}
+
 // The line of a codeword's message. The message reader cannot refuse it.
 fn message_line(
     serial: u32,
@@ -38,7 +49,7 @@ fn message_line(
     ensures { λ end. ⌜ Appended (now (out .entry)) at (acceptedLine serial (messageOf m r (now (decoded .entry)))) end (now (out .exit)) ⌝ }
 {
     codec::read_message(m, r, decoded, message);
-    lines::accepted_line(serial, message, out, at)
+    put_accepted(serial, message, out, at)
 }
 
 // The line of an accepted record.

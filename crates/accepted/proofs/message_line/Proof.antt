@@ -15,8 +15,8 @@ use Rattle.accepted.proofs.message_line.Tie as tie
 read-message-requires : tie.Need-read-message-requires
 read-message-requires c κs = search needs
 
-accepted-line-requires : tie.Need-accepted-line-requires
-accepted-line-requires c κs =
+put-accepted-requires : tie.Need-put-accepted-requires
+put-accepted-requires c κs =
     let s = c .before .before .before .before .before .before .before .before .before in
     let message = c .before .before .before .before .read-message .last .1 .1 .1 .0 in
     let e = reads-message (s .pre .0) (c .before .before .before .before .read-message .ensures) in
@@ -36,10 +36,10 @@ returns : tie.Need-returns
 returns c =
     let s = c .before .before .before .before .before .before .before .before .before .before .before .before in
     let e = reads-message (s .pre .0) (c .before .before .before .before .before .before .before .read-message .ensures) in
-    subst (λ (l : List ℕ). Appended (s .args .out .now) (s .args .at) (acceptedLine (s .args .serial) l) (c .before .before .accepted-line .result) (c .before .before .accepted-line .last .1 .1 .0)) e
-    (c .before .before .accepted-line .ensures)
+    subst (λ (l : List ℕ). Appended (s .args .out .now) (s .args .at) (acceptedLine (s .args .serial) l) (c .before .before .put-accepted .result) (c .before .before .put-accepted .last .1 .1 .0)) e
+    (c .before .before .put-accepted .ensures)
 
 pub message-line-spec : {M : Type 1} → statement M
 message-line-spec =
     tie.close
-    (tie.spec read-message-requires accepted-line-requires same-length same-length-2 returns)
+    (tie.spec read-message-requires put-accepted-requires same-length same-length-2 returns)

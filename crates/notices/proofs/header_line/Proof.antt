@@ -10,14 +10,14 @@ use Rattle.notices.proofs.header_line.Tie as tie
 returns : tie.Need-returns
 returns c = puts-none (omega arith)
 
-header-line-requires : tie.Need-header-line-requires
-header-line-requires c κs = omega (arith, header-length, decimal-length 1 15 (omega arith))
+put-header-requires : tie.Need-put-header-requires
+put-header-requires c κs = omega (arith, header-length, decimal-length 1 15 (omega arith))
 
 same-length : tie.Need-same-length
 same-length c = search needs
 
 returns-2 : tie.Need-returns-2
-returns-2 c = puts (omega arith) (c .before .before .header-line .ensures)
+returns-2 c = puts (omega arith) (c .before .before .put-header .ensures)
 
 pub header-line-spec : {M : Type 1} → statement M
-header-line-spec = tie.close (tie.spec returns header-line-requires same-length returns-2)
+header-line-spec = tie.close (tie.spec returns put-header-requires same-length returns-2)

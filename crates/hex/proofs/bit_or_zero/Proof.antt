@@ -1,10 +1,10 @@
--- `text::bit_or_zero` meets its contract. Assumes nothing.
+-- `hex::bit_or_zero` meets its contract. Assumes nothing.
 use mathlib.Core.Path.{sym}
 use lib.ListN.{List·getD-eq-default}
 use borrow.Author.Needs.{needs}
 use native.Mathlib.Omega.{arith}
-use Rattle.text.proofs.bit_or_zero.Statement.{statement}
-use Rattle.text.proofs.bit_or_zero.Tie as tie
+use Rattle.hex.proofs.bit_or_zero.Statement.{statement}
+use Rattle.hex.proofs.bit_or_zero.Tie as tie
 
 shared-slice-read-result : tie.Need-shared-slice-read-result
 shared-slice-read-result c = search needs

@@ -1,10 +1,10 @@
--- `lines::header_line` meets its contract: its texts stand one after the other. Assumes nothing.
+-- `notices::put_header` meets its contract: its texts stand one after the other. Assumes nothing.
 use Rattle.text.specs.TextLaws.{then-also}
 use Rattle.lines.specs.LineLaws.{header-length, refusal-length}
 use borrow.Author.Needs.{needs}
 use native.Mathlib.Omega.{arith}
-use Rattle.lines.proofs.header_line.Statement.{statement}
-use Rattle.lines.proofs.header_line.Tie as tie
+use Rattle.notices.proofs.put_header.Statement.{statement}
+use Rattle.notices.proofs.put_header.Tie as tie
 
 slice-aggregate-put-text : tie.Need-slice-aggregate-put-text
 slice-aggregate-put-text c = search needs
@@ -24,8 +24,8 @@ same-length c = search needs
 returns : tie.Need-returns
 returns c = then-also (then-also (c .before .before .before .before .before .before .before .before .before .before .put-text .ensures) (c .before .before .before .before .before .before .put-refusal .ensures)) (c .before .before .put-byte .ensures)
 
-pub header-line-spec : {M : Type 1} → statement M
-header-line-spec =
+pub put-header-spec : {M : Type 1} → statement M
+put-header-spec =
     tie.close
     (tie.spec
     slice-aggregate-put-text

@@ -1,10 +1,10 @@
--- `lines::accepted_line` meets its contract: its texts stand one after the other. Assumes nothing.
+-- `accepted::put_accepted` meets its contract: its texts stand one after the other. Assumes nothing.
 use Rattle.text.specs.TextLaws.{then-also, ten-length, hex-length}
 use Rattle.lines.specs.LineLaws.{accepted-length}
 use borrow.Author.Needs.{needs}
 use native.Mathlib.Omega.{arith}
-use Rattle.lines.proofs.accepted_line.Statement.{statement}
-use Rattle.lines.proofs.accepted_line.Tie as tie
+use Rattle.accepted.proofs.put_accepted.Statement.{statement}
+use Rattle.accepted.proofs.put_accepted.Tie as tie
 
 put-ten-requires : tie.Need-put-ten-requires
 put-ten-requires c κs = omega (arith, accepted-length (c .before .before .before .args .serial) (c .before .before .before .args .message .now))
@@ -33,8 +33,8 @@ returns c =
     (then-also (then-also (c .before .before .before .before .before .before .before .before .before .before .before .before .before .before .put-ten .ensures) (c .before .before .before .before .before .before .before .before .before .before .put-byte .ensures)) (c .before .before .before .before .before .before .put-hex .ensures))
     (c .before .before .put-byte2 .ensures)
 
-pub accepted-line-spec : {M : Type 1} → statement M
-accepted-line-spec =
+pub put-accepted-spec : {M : Type 1} → statement M
+put-accepted-spec =
     tie.close
     (tie.spec
     put-ten-requires

@@ -1,10 +1,10 @@
--- `lines::last_line` meets its contract: its texts stand one after the other. Assumes nothing.
+-- `notices::put_last` meets its contract: its texts stand one after the other. Assumes nothing.
 use Rattle.text.specs.TextLaws.{then-also}
 use Rattle.lines.specs.LineLaws.{last-length}
 use borrow.Author.Needs.{needs}
 use native.Mathlib.Omega.{arith}
-use Rattle.lines.proofs.last_line.Statement.{statement}
-use Rattle.lines.proofs.last_line.Tie as tie
+use Rattle.notices.proofs.put_last.Statement.{statement}
+use Rattle.notices.proofs.put_last.Tie as tie
 
 put-decimal-requires : tie.Need-put-decimal-requires
 put-decimal-requires c κs = omega (arith, last-length (c .before .before .args .records) (c .before .before .args .accepted))
@@ -43,8 +43,8 @@ returns c =
     (c .before .before .before .before .before .before .put-text2 .ensures))
     (c .before .before .put-byte .ensures)
 
-pub last-line-spec : {M : Type 1} → statement M
-last-line-spec =
+pub put-last-spec : {M : Type 1} → statement M
+put-last-spec =
     tie.close
     (tie.spec
     put-decimal-requires

@@ -1,14 +1,14 @@
--- `text::put_hex` meets its contract: the loop writes a digit a turn. Assumes nothing.
+-- `hex::put_hex` meets its contract: the loop writes a digit a turn. Assumes nothing.
 use Prim.Native.Nat.{_+_, _-_, _*_, _/_, _≤_}
 use mathlib.Core.Path.{_≡_, refl, ap, _∙_}
 use lib.ListN.{length}
 use Rattle.words.specs.Written.{Written, written-none, written-more, written-to}
 use Rattle.text.specs.Numbers.{hexDigit, nibble, hexOf}
 use Rattle.text.specs.TextLaws.{a-run}
 use borrow.Author.Needs.{needs}
 use native.Mathlib.Omega.{arith}
-use Rattle.text.proofs.put_hex.Statement.{statement}
-use Rattle.text.proofs.put_hex.Tie as tie
+use Rattle.hex.proofs.put_hex.Statement.{statement}
+use Rattle.hex.proofs.put_hex.Tie as tie
 
 abbrev Inv-loop : tie.InvT-loop
 Inv-loop message out₀ at digits i₀ out i = (digits ≡ (length message + 7) / 8 * 2) × (i ≤ digits) × (length out ≡ length out₀) × Written 0 at i (λ j. hexDigit (nibble message j)) out₀ out
