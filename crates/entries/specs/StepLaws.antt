@@ -26,7 +26,7 @@ use Rattle.text.specs.Texts.{Appended}
 use Rattle.text.specs.TextLaws.{appended-within}
 use Rattle.accepted.specs.declared.Line.{Line}
 use Rattle.accepted.specs.Accepted.{Lined, lineIn, okIn}
-use Rattle.records.specs.Decodable.{Decodable}
+use Rattle.entries.specs.Decodable.{Decodable}
 use Rattle.pieces.specs.Listing.{linesOf, acceptedOf}
 use Rattle.pieces.specs.Pieces.{entries}
 use Rattle.pieces.specs.Steps.{Stepped}

@@ -8,6 +8,8 @@ use capture::Found;
 use notices::refusal_line;
 use pieces::Listed;
 
+mod records;
+
 // The line of what stands at the start of the part, by way of a word buffer of its size. 14, 16 and no byte left end the listing.
 fn list_found(part: &[u8], word: &mut [u8], out: &mut [u8], at: usize, area: &mut [i32]) -> Listed
     requires { ⌜ (length (now word) ≡ 8 * bodyLength (now part)) × (at + 36 ≤ length (now out)) × (2048 ≤ length (now area)) ⌝ }

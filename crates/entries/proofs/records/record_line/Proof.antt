@@ -1,4 +1,4 @@
--- `records::record_line` meets its contract. Assumes nothing.
+-- `entries::records::record_line` meets its contract. Assumes nothing.
 use Prim.Native.Nat.{ℕ, _*_}
 use mathlib.Core.Path.{_∙_}
 use lib.ListN.{length, replicate}
@@ -6,8 +6,8 @@ use Rattle.words.specs.Parts.{front-length}
 use Rattle.capture.specs.Cases.{sized}
 use borrow.Author.Needs.{needs}
 use native.Mathlib.Omega.{arith}
-use Rattle.records.proofs.record_line.Statement.{statement}
-use Rattle.records.proofs.record_line.Tie as tie
+use Rattle.entries.proofs.records.record_line.Statement.{statement}
+use Rattle.entries.proofs.records.record_line.Tie as tie
 
 mul-numbers : tie.Need-mul-numbers
 mul-numbers c = search needs

@@ -23,7 +23,7 @@ use Rattle.rule.specs.Calls.{valuesOf, Decodes}
 use Rattle.lines.specs.Lines.{acceptedLine, refusedLine, entry, entryFor, recordEntry}
 use Rattle.accepted.specs.Accepted.{AcceptedWord}
 use Rattle.accepted.specs.MessageLines.{codeword-passes, message-size, message-size-most}
-use Rattle.records.specs.Decodable.{Decodable}
+use Rattle.entries.specs.Decodable.{Decodable}
 
 -- ---- the decoder's answers
 

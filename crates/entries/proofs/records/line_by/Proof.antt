@@ -1,12 +1,12 @@
--- `records::line_by` meets its contract: each answer of the decoder has its line. Assumes nothing.
+-- `entries::records::line_by` meets its contract: each answer of the decoder has its line. Assumes nothing.
 use mathlib.Core.Path.{refl}
 use Rattle.text.specs.TextLaws.{decimal-length}
 use Rattle.lines.specs.LineLaws.{refused-length}
-use Rattle.records.specs.RecordLaws.{decodes-accepted, accepted-is, refused-is}
+use Rattle.entries.specs.RecordLaws.{decodes-accepted, accepted-is, refused-is}
 use borrow.Author.Needs.{needs}
 use native.Mathlib.Omega.{arith}
-use Rattle.records.proofs.line_by.Statement.{statement}
-use Rattle.records.proofs.line_by.Tie as tie
+use Rattle.entries.proofs.records.line_by.Statement.{statement}
+use Rattle.entries.proofs.records.line_by.Tie as tie
 
 decode-profile-requires : tie.Need-decode-profile-requires
 decode-profile-requires c κs = search needs

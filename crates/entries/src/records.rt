@@ -3,7 +3,7 @@ ghost use Prim.Native.Nat.{_+_, _≤_};
 ghost use lib.ListN.{length};
 ghost use Rattle.lines.specs.Lines.{recordEntry};
 ghost use Rattle.accepted.specs.Accepted.{Lined};
-ghost use Rattle.records.specs.Decodable.{Decodable};
+ghost use Rattle.entries.specs.Decodable.{Decodable};
 use accepted::Line;
 use accepted::accepted_line;
 use refusals::Decoded;
