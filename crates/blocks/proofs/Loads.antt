@@ -23,7 +23,7 @@ use Rattle.words.specs.Word.{bit}
 use Rattle.area.specs.Area.{at}
 use Rattle.area.specs.Numbers.{stored, stored-eq}
 use Rattle.area.specs.Places.{Places, places}
-use Rattle.hadamard.specs.Begun.{EightsDone}
+use Rattle.correlations.specs.Begun.{EightsDone}
 use Rattle.hadamard.specs.Correlation.{correlation}
 use Rattle.hadamard.specs.CorrelationLaws.{correlation-ext}
 use Rattle.hadamard.specs.Summable.{Summable}

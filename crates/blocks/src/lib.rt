@@ -34,7 +34,7 @@ fn load_eight(word: &[u8], i: usize, area: &mut [i32])
     area[i + 6] = z6;
     area[i + 7] = z7;
     let e = i + 8;
-    hadamard::eight(&mut area[i..e]);
+    correlations::eight(&mut area[i..e]);
 }
 
 // The quads of the block, each eight of them transformed.
@@ -57,5 +57,5 @@ pub fn correlate(k: usize, word: &[u8], area: &mut [i32])
 {
     load(k, word, area);
     let q = words::size(k);
-    hadamard::levels(&mut area[0..q]);
+    correlations::levels(&mut area[0..q]);
 }

@@ -1,4 +1,4 @@
--- Definitions: Correlation; byDigits in LowDigits. What the transform asks: Summable, Begun. The rest are laws.
+-- Definitions: Correlation; byDigits in LowDigits. What the transform asks: Summable. The rest are laws.
 pub mod Correlation
 pub mod Summable
 pub mod AffineWords
@@ -6,7 +6,5 @@ pub mod CorrelationLaws
 pub mod Peak
 pub mod PeakExt
 pub mod Transform
-pub mod Fours
-pub mod Begun
 pub mod Spread
 pub mod LowDigits

@@ -1,19 +1,12 @@
-// Correlations by the fast Hadamard transform.
+// A level of the fast Hadamard transform.
 ghost use mathlib.Core.Path.{_≡_};
-ghost use mathlib.Core.List.{List};
-ghost use Prim.Native.Nat.{ℕ, _+_, _^_};
-ghost use lib.IntN.{ℤ};
+ghost use Prim.Native.Nat.{_+_};
 ghost use lib.ListN.{length};
-ghost use Rattle.words.specs.Sum.{tabulate};
 ghost use Rattle.words.specs.Butterflies.{butterflies, halved, Entries, Blocked, BlocksDone};
-ghost use Rattle.area.specs.Area.{at};
-ghost use Rattle.hadamard.specs.Correlation.{correlation};
-ghost use Rattle.hadamard.specs.Summable.{Summable};
 ghost use Rattle.hadamard.specs.Transform.{sums};
-ghost use Rattle.hadamard.specs.Begun.{Begun, EightsDone};
 
 // The sums of two halves of h numbers, then their differences, in place.
-fn butterfly(a: &mut [i32], h: usize)
+pub fn butterfly(a: &mut [i32], h: usize)
     requires { ⌜ Entries sums (h + h) 1 (now a) ⌝ }
     ensures { λ _. ⌜ now (a .exit) ≡ butterflies sums h (now (a .entry)) ⌝ }
 {
@@ -29,58 +22,15 @@ fn butterfly(a: &mut [i32], h: usize)
 }
 
 // The transform of 2 numbers.
-fn two(a: &mut [i32])
+pub fn two(a: &mut [i32])
     requires { ⌜ Entries sums 2 1 (now a) ⌝ }
     ensures { λ _. ⌜ now (a .exit) ≡ halved sums 1 (now (a .entry)) ⌝ }
 {
     butterfly(a, 1);
 }
 
-// The transform of 4 numbers: all are read before any is written, so that the compiler takes them together.
-fn four(a: &mut [i32])
-    requires { ⌜ Entries sums 4 2 (now a) ⌝ }
-    ensures { λ _. ⌜ now (a .exit) ≡ halved sums 2 (now (a .entry)) ⌝ }
-{
-    let x0 = a[0];
-    let x1 = a[1];
-    let x2 = a[2];
-    let x3 = a[3];
-    let s = x0 + x1;
-    let d = x0 - x1;
-    let t = x2 + x3;
-    let e = x2 - x3;
-    a[0] = s + t;
-    a[1] = d + e;
-    a[2] = s - t;
-    a[3] = d - e;
-}
-
-// The transform of 8 numbers: of each half, then one level.
-pub fn eight(a: &mut [i32])
-    requires { ⌜ Entries sums 8 3 (now a) ⌝ }
-    ensures { λ _. ⌜ now (a .exit) ≡ halved sums 3 (now (a .entry)) ⌝ }
-{
-    four(&mut a[0..4]);
-    four(&mut a[4..8]);
-    butterfly(a, 4);
-}
-
-// The transform of each block of 4 numbers.
-fn fours(a: &mut [i32])
-    requires { ⌜ Blocked sums 4 2 (now a) ⌝ }
-    ensures { λ _. ⌜ BlocksDone (halved sums 2) 4 (length (now (a .entry))) (now (a .entry)) (now (a .exit)) ⌝ }
-{
-    let n = a.len();
-    let mut b = 0;
-    while b < n {
-        let e = b + 4;
-        four(&mut a[b..e]);
-        b = e;
-    }
-}
-
 // The butterflies of each block of two halves of h numbers.
-fn level(a: &mut [i32], h: usize)
+pub fn level(a: &mut [i32], h: usize)
     requires { ⌜ Blocked sums (h + h) 1 (now a) ⌝ }
     ensures { λ _. ⌜ BlocksDone (butterflies sums h) (h + h) (length (now (a .entry))) (now (a .entry)) (now (a .exit)) ⌝ }
 {
@@ -92,37 +42,4 @@ fn level(a: &mut [i32], h: usize)
         butterfly(&mut a[b..e], h);
         b = e;
     }
-}
-
-// The levels after the blocks of 8.
-pub fn levels(a: &mut [i32])
-    requires { ⌜ Begun (now a) ⌝ }
-    ensures { λ _. ⌜ ((m : ℕ) (x : List ℤ) → EightsDone m x (now (a .entry)) → now (a .exit) ≡ tabulate (2 ^ m) (correlation m (at x))) ⌝ }
-{
-    let mut h: usize = 8;
-    while h < a.len() {
-        level(a, h);
-        h = h + h;
-    }
-}
-
-// The correlation of every mask with the values in a, in place: blocks of 4 first, then level by level. The first level is a call of its
-// own with a literal, which the compiler unrolls.
-pub fn correlate(a: &mut [i32], m: usize)
-    requires { ⌜ Summable m (now a) ⌝ }
-    ensures { λ _. ⌜ now (a .exit) ≡ tabulate (2 ^ m) (correlation m (at (now (a .entry)))) ⌝ }
-{
-    if m == 0 {
-        return;
-    }
-    if m == 1 {
-        two(a);
-        return;
-    }
-    fours(a);
-    if m == 2 {
-        return;
-    }
-    level(a, 4);
-    levels(a);
 }

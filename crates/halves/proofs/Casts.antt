@@ -1,54 +1,18 @@
--- Packed pairs and bits in 32 signed bits, as the code computes with them. Assumes nothing.
+-- Packed pairs in 32 signed bits, as the code computes with them. Assumes nothing.
 use Prim.Native.Nat.{ℕ, _+_, _/_, _%_, _^_, _≤_, _<_}
-use mathlib.Core.Path.{_≡_, refl, ap, _∙_}
+use mathlib.Core.Path.{_≡_, ap, _∙_}
 use mathlib.Core.List.{List}
 use native.Mathlib.Omega.{arith}
 use lib.Dec.{T}
-use lib.IntN.{ℤ, pos, natAbs, _+ℤ_, _-ℤ_, _*ℤ_}
+use lib.IntN.{ℤ, pos, natAbs, _+ℤ_, _-ℤ_}
 use lib.Signed.{nonNeg}
 use mir.Syntax.{w32}
 use mir.Val.{Fits, SFits, toZ}
 use Rattle.words.specs.Written.{Written}
-use Rattle.area.specs.Area.{at, IsBit, zero-bit, one-bit}
+use Rattle.area.specs.Area.{at}
 use Rattle.area.specs.Numbers.{Half, stored, stored-eq, natAbs-add}
-use Rattle.hadamard.specs.Correlation.{sign}
-use Rattle.halves.specs.Halves.{packed, raised, firstOf, secondOf, Packed}
+use Rattle.halves.specs.Halves.{raised, firstOf, secondOf, Packed}
 use Rattle.peaks.specs.Stored.{raise-fits, raise-is, raise-casts, lower-is}
-
--- ---- the pair of signs of two bits: 2049 - 2 * (x + 2048 * y)
-
-abbrev coded : ℤ → ℤ → ℤ
-coded x y = stored x +ℤ stored (pos 2048 *ℤ stored y)
-
-pub second-fits : {y : ℤ} → IsBit y → SFits w32 (pos 2048 *ℤ stored y)
-second-fits zero-bit = record { sfits = omega arith }
-second-fits one-bit = record { sfits = omega arith }
-
-pub coded-fits : {x y : ℤ} → IsBit x → IsBit y → SFits w32 (coded x y)
-coded-fits zero-bit zero-bit = record { sfits = omega arith }
-coded-fits zero-bit one-bit = record { sfits = omega arith }
-coded-fits one-bit zero-bit = record { sfits = omega arith }
-coded-fits one-bit one-bit = record { sfits = omega arith }
-
-pub double-fits : {x y : ℤ} → IsBit x → IsBit y → SFits w32 (pos 2 *ℤ stored (coded x y))
-double-fits zero-bit zero-bit = record { sfits = omega arith }
-double-fits zero-bit one-bit = record { sfits = omega arith }
-double-fits one-bit zero-bit = record { sfits = omega arith }
-double-fits one-bit one-bit = record { sfits = omega arith }
-
-pub signs-fit : {x y : ℤ} → IsBit x → IsBit y → SFits w32 (pos 2049 -ℤ stored (pos 2 *ℤ stored (coded x y)))
-signs-fit zero-bit zero-bit = record { sfits = omega arith }
-signs-fit zero-bit one-bit = record { sfits = omega arith }
-signs-fit one-bit zero-bit = record { sfits = omega arith }
-signs-fit one-bit one-bit = record { sfits = omega arith }
-
-pub signs-are :
-    {x y : ℤ} → IsBit x → IsBit y
-    → stored (pos 2049 -ℤ stored (pos 2 *ℤ stored (coded x y))) ≡ packed (sign (natAbs x)) (sign (natAbs y))
-signs-are zero-bit zero-bit = refl
-signs-are zero-bit one-bit = refl
-signs-are one-bit zero-bit = refl
-signs-are one-bit one-bit = refl
 
 -- ---- the numbers of a packed pair
 

@@ -1,27 +1,13 @@
 // The greatest correlation of a word by its halves, which are packed two to a number and transformed together: the last level of the
 // transform is not made.
 ghost use mathlib.Core.Path.{_≡_};
-ghost use Prim.Native.Nat.{_+_, _*_, _≤_, _<_};
-ghost use lib.ListN.{length};
+ghost use Prim.Native.Nat.{_+_, _<_};
 ghost use lib.IntN.{pos, natAbs};
 ghost use Rattle.words.specs.Written.{Written};
-ghost use Rattle.area.specs.Area.{at, Bits};
+ghost use Rattle.area.specs.Area.{at};
 ghost use Rattle.peaks.specs.Peaks.{joined, IsPeak};
-ghost use Rattle.halves.specs.Halves.{signsPacked, firstOf, secondOf, sizeOf, Packed};
+ghost use Rattle.halves.specs.Halves.{firstOf, secondOf, sizeOf, Packed};
 use peaks::Peak;
-
-// The signs of the word's halves, packed, after the word.
-pub fn pack(h: usize, area: &mut [i32])
-    requires { ⌜ (h ≤ 512) × (4 * h ≡ length (now area)) × Bits (h + h) (now area) ⌝ }
-    ensures { λ _. ⌜ Written (pos 0) (h + h) h (signsPacked h (now (area .entry))) (now (area .entry)) (now (area .exit)) ⌝ }
-{
-    let mut i = 0;
-    while i != h {
-        let x = area[i] + 2048 * area[h + i];
-        area[2 * h + i] = 2049 - 2 * x;
-        i += 1;
-    }
-}
 
 // The first number of a packed pair.
 fn first_of(z: i32) -> i32

@@ -33,7 +33,7 @@ fn pack(quarters: bool, q: usize, area: &mut [i32])
     if quarters {
         quarter_packing::pack(q, area);
     } else {
-        halves::pack(q, area);
+        half_packing::pack(q, area);
     }
 }
 
@@ -61,7 +61,7 @@ pub fn find_peak(m: usize, area: &mut [i32]) -> Peak
     let q = words::size(k);
     pack(quarters, q, area);
     let e = n + q;
-    hadamard::correlate(&mut area[n..e], k);
+    correlations::correlate(&mut area[n..e], k);
     let end = n + n;
     search(quarters, q, &mut area[n..end])
 }

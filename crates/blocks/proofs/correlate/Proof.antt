@@ -2,7 +2,7 @@
 use Prim.Native.Nat.{_-_}
 use lib.ListN.{take}
 use borrow.Author.Needs.{needs}
-use Rattle.hadamard.specs.Begun.{EightsDone}
+use Rattle.correlations.specs.Begun.{EightsDone}
 use Rattle.blocks.specs.Blocks.{quadsOf}
 use Rattle.blocks.proofs.Loads.{eights-done, correlated}
 use Rattle.blocks.proofs.correlate.Statement.{statement}

@@ -1,4 +1,4 @@
--- `hadamard::correlate` meets its contract: the blocks of 4, then the levels. Assumes nothing.
+-- `correlations::correlate` meets its contract: the blocks of 4, then the levels. Assumes nothing.
 use Prim.Native.Nat.{ℕ, _^_, _≤_, _<_}
 use mathlib.Core.Path.{ap, _∙_}
 use native.Mathlib.Omega.{arith}
@@ -7,10 +7,10 @@ use lib.Pow.{pow-mono}
 use Rattle.words.specs.Butterflies.{Entries}
 use Rattle.words.specs.ButterflyLaws.{halved-zero, halved-at}
 use Rattle.words.specs.Levels.{Transformed, whole-blocks, transformed-blocks, transformed-length, transformed-all, next-level, level-done}
-use Rattle.hadamard.specs.Begun.{EightsDone}
+use Rattle.correlations.specs.Begun.{EightsDone}
 use Rattle.hadamard.specs.Transform.{sums, summable-entries, halved-correlation}
-use Rattle.hadamard.proofs.correlate.Statement.{statement}
-use Rattle.hadamard.proofs.correlate.Tie as tie
+use Rattle.correlations.proofs.correlate.Statement.{statement}
+use Rattle.correlations.proofs.correlate.Tie as tie
 
 -- ---- what is known after the calls, of the function's own argument
 

@@ -1,9 +1,9 @@
--- `hadamard::four` meets its contract: all four numbers are read before the first is set. Assumes nothing.
+-- `correlations::four` meets its contract: all four numbers are read before the first is set. Assumes nothing.
 use borrow.Author.Needs.{needs}
 use Rattle.area.specs.Numbers.{sum-fits, difference-fits}
-use Rattle.hadamard.specs.Fours.{entry-half, plus-half, minus-half, four-summed}
-use Rattle.hadamard.proofs.four.Statement.{statement}
-use Rattle.hadamard.proofs.four.Tie as tie
+use Rattle.correlations.specs.Fours.{entry-half, plus-half, minus-half, four-summed}
+use Rattle.correlations.proofs.four.Statement.{statement}
+use Rattle.correlations.proofs.four.Tie as tie
 
 slice-copy-out-x0 : tie.Need-slice-copy-out-x0
 slice-copy-out-x0 c = search needs

@@ -1,4 +1,4 @@
--- `halves::pack` meets its contract. Assumes nothing.
+-- `half_packing::pack` meets its contract. Assumes nothing.
 use Prim.Native.Nat.{ℕ, _+_, _-_, _≤_}
 use mathlib.Core.Path.{_≡_, refl, sym, ap₂, subst, _∙_}
 use native.Mathlib.Omega.{arith}
@@ -7,10 +7,10 @@ use lib.IntN.{ℤ, pos, natAbs}
 use Rattle.words.specs.Written.{Written, written-none, written-more, written-to}
 use Rattle.area.specs.Area.{at, IsBit}
 use Rattle.hadamard.specs.Correlation.{sign}
 use Rattle.halves.specs.Halves.{packed, signsPacked}
-use Rattle.halves.proofs.Casts.{second-fits, coded-fits, double-fits, signs-fit, signs-are}
-use Rattle.halves.proofs.pack.Statement.{statement}
-use Rattle.halves.proofs.pack.Tie as tie
+use Rattle.half_packing.proofs.Signs.{second-fits, coded-fits, double-fits, signs-fit, signs-are}
+use Rattle.half_packing.proofs.pack.Statement.{statement}
+use Rattle.half_packing.proofs.pack.Tie as tie
 
 abbrev Inv-loop : tie.InvT-loop
 Inv-loop h area₀ i₀ area i = (i ≤ h) × (length area ≡ length area₀) × Written (pos 0) (h + h) i (signsPacked h area₀) area₀ area

@@ -1,4 +1,4 @@
--- `hadamard::levels` meets its contract: each level transforms blocks of twice the size. Assumes nothing.
+-- `correlations::levels` meets its contract: each level transforms blocks of twice the size. Assumes nothing.
 use Prim.Native.Nat.{ℕ, _-_, _^_}
 use mathlib.Core.Path.{_≡_, sym, _∙_}
 use mathlib.Core.List.{List}
@@ -7,10 +7,10 @@ use lib.IntN.{ℤ}
 use lib.ListN.{length}
 use Rattle.words.specs.Butterflies.{Entries}
 use Rattle.words.specs.Levels.{Transformed, transformed-length, transformed-all, next-level, level-done}
 use Rattle.hadamard.specs.Transform.{sums, summable-entries, halved-correlation}
-use Rattle.hadamard.specs.Begun.{EightsDone}
-use Rattle.hadamard.proofs.levels.Statement.{statement}
-use Rattle.hadamard.proofs.levels.Tie as tie
+use Rattle.correlations.specs.Begun.{EightsDone}
+use Rattle.correlations.proofs.levels.Statement.{statement}
+use Rattle.correlations.proofs.levels.Tie as tie
 
 abbrev Inv-loop : tie.InvT-loop
 Inv-loop a₀ h₀ a h = (m : ℕ) (x : List ℤ) → Entries sums (2 ^ m) m x → Transformed sums m 8 x a₀ → Transformed sums m h x a

@@ -1,11 +1,11 @@
--- `hadamard::eight` meets its contract: the transform of two halves, joined. Assumes nothing.
+-- `correlations::eight` meets its contract: the transform of two halves, joined. Assumes nothing.
 use native.Mathlib.Omega.{arith}
 use mathlib.Core.Path.{refl}
 use borrow.Author.Needs.{needs}
 use Rattle.words.specs.Levels.{first-lent, second-lent, halves-ready, halves-joined}
 use Rattle.hadamard.specs.Transform.{sums}
-use Rattle.hadamard.proofs.eight.Statement.{statement}
-use Rattle.hadamard.proofs.eight.Tie as tie
+use Rattle.correlations.proofs.eight.Statement.{statement}
+use Rattle.correlations.proofs.eight.Tie as tie
 
 sub-four : tie.Need-sub-four
 sub-four c = search needs

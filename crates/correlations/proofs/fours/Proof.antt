@@ -1,14 +1,14 @@
--- `hadamard::fours` meets its contract: a turn does one block. Assumes nothing.
+-- `correlations::fours` meets its contract: a turn does one block. Assumes nothing.
 use Prim.Native.Nat.{_-_}
 use native.Mathlib.Omega.{arith}
 use lib.ListN.{length}
 use Rattle.words.specs.Butterflies.{halved, BlocksDone}
 use Rattle.words.specs.Blocks.{blocks-none, block-fits, block-lent, block-back, blocks-all}
 use Rattle.words.specs.Levels.{halved-keeps}
 use Rattle.hadamard.specs.Transform.{sums}
 use borrow.Author.Needs.{needs}
-use Rattle.hadamard.proofs.fours.Statement.{statement}
-use Rattle.hadamard.proofs.fours.Tie as tie
+use Rattle.correlations.proofs.fours.Statement.{statement}
+use Rattle.correlations.proofs.fours.Tie as tie
 
 abbrev Inv-loop : tie.InvT-loop
 Inv-loop a₀ n b₀ a b = BlocksDone (halved sums 2) 4 b a₀ a
