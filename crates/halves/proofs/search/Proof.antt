@@ -1,12 +1,13 @@
 -- The sizes of the pairs, their greatest and its key lead to the peak.
-use Prim.Native.Nat.{_+_, _-_, _%_, _<_}
+use Prim.Native.Nat.{ℕ, _+_, _-_, _%_, _≤_, _<_}
 use mathlib.Core.Path.{_≡_, refl, sym, ap, _∙_, subst}
 use native.Mathlib.Omega.{arith}
 use lib.IntN.{ℤ, natAbs}
-use lib.ListN.{take, drop}
-use borrow.Author.Needs.{needs}
+use lib.Dec.{lt→ltb}
+use lib.ListN.{length, take, drop}
 use Rattle.area.specs.Area.{at}
 use Rattle.area.specs.Numbers.{stored, stored-eq}
+use Rattle.area.specs.Places.{Place, Places, place, places}
 use Rattle.halves.specs.Halves.{firstOf, secondOf}
 use Rattle.halves.specs.PairNumbers.{sizes-held, sizes-small}
 use Rattle.peaks.specs.Peaks.{Sizes}
@@ -15,7 +16,19 @@ use Rattle.peaks.specs.Stored.{as-it-is, size-whole, size-casts, peak-as}
 use Rattle.halves.proofs.search.Statement.{statement}
 use Rattle.halves.proofs.search.Tie as tie
 
+-- ---- the places in a part of n numbers: h pairs, and their sizes after them
+
+module _ {h n : ℕ} (few : h ≤ 512) (size : n ≡ h + h) where
+  sizes-placed : 0 < h → Places h h n
+  sizes-placed some = places (omega arith) (lt→ltb 0 h some) (omega arith)
+
+  pair-placed : {j : ℕ} → j < h → Place j n
+  pair-placed l = place (omega arith) (omega arith)
+
 -- ---- what the steps leave
+
+placed : (c : tie.After-pair-sizes) → let h = c .before .before .args .h in Places h h (length (c .pair-sizes .last .1 .0))
+placed c = let k = c .before .before .pre in sizes-placed (k .few) (c .pair-sizes .ensures .long ∙ k .size) (k .some)
 
 -- the sizes of the pairs
 sizes-at : (c : tie.After-pair-sizes) → let a = c .before .before .args in
@@ -25,6 +38,9 @@ sizes-at c = sizes-held (c .before .before .pre) (c .pair-sizes .ensures)
 sizes-are : (c : tie.After-pair-sizes) → let a = c .before .before .args in
     Sizes (take ((a .h + a .h) - a .h) (drop (a .h) (c .pair-sizes .last .1 .0)))
 sizes-are c = let k = c .before .before .pre in held-sizes (k .few) (sizes-at c) (sizes-small k)
+
+abbrev sized : tie.After-keys → tie.After-pair-sizes
+sized c = c .before .before .before .before .before .before .before
 
 -- the greatest and its key
 told : (c : tie.After-keys) → let g = c .before .before .before in let a = g .before .before .before .before .before .before .args in
@@ -38,6 +54,13 @@ told c =
 below : (c : tie.Else1) → let s = c .before .before .before .before .before .before .before .before .before .before in
     c .before .keys .result % 65536 < s .args .h
 below c = searched-place (told (c .before)) (c .if1 .left)
+
+-- where the pair is
+pair-at : (c : tie.Else1) → let p = sized (c .before) in Place (c .before .keys .result % 65536) (length (p .pair-sizes .last .1 .0))
+pair-at c =
+    let p = sized (c .before) in
+    let k = p .before .before .pre in
+    pair-placed (k .few) (p .pair-sizes .ensures .long ∙ k .size) (below c)
 
 -- the pair, which the sizes left as it was
 pair-read : (c : tie.Else1) →
@@ -73,38 +96,38 @@ second-is c = as-it-is (c .second-of .ok) ∙ c .second-of .ensures ∙ ap secon
 -- ---- the needs
 
 pair-sizes-requires : tie.Need-pair-sizes-requires
-pair-sizes-requires c κs = search needs
+pair-sizes-requires c κs = c .before .pre
 
 add-e : tie.Need-add-e
-add-e c = search needs
+add-e c = placed (c .before) .end
 
 mul-greatest : tie.Need-mul-greatest
-mul-greatest c = search needs
+mul-greatest c = placed (c .before) .start .bytes
 
 sub-greatest : tie.Need-sub-greatest
-sub-greatest c = search needs
+sub-greatest c = placed (c .before) .ordered
 
 part-greatest-start : tie.Need-part-greatest-start
-part-greatest-start c = search needs
+part-greatest-start c = placed (c .before .before) .ordered
 
 part-greatest-end : tie.Need-part-greatest-end
-part-greatest-end c = search needs
+part-greatest-end c = placed (c .before .before) .within
 
 greatest-requires : tie.Need-greatest-requires
 greatest-requires c κs =
     sizes-are (c .before .before .before)
 
 mul-keys : tie.Need-mul-keys
-mul-keys c = search needs
+mul-keys c = placed (c .before .before .before .before) .start .bytes
 
 sub-keys : tie.Need-sub-keys
-sub-keys c = search needs
+sub-keys c = placed (c .before .before .before .before) .ordered
 
 part-keys-start : tie.Need-part-keys-start
-part-keys-start c = search needs
+part-keys-start c = placed (c .before .before .before .before .before) .ordered
 
 part-keys-end : tie.Need-part-keys-end
-part-keys-end c = search needs
+part-keys-end c = placed (c .before .before .before .before .before) .within
 
 keys-requires : tie.Need-keys-requires
 keys-requires c κs =
@@ -113,24 +136,22 @@ keys-requires c κs =
     (sizes-are p, size-whole (g .greatest .ensures) (g .greatest .ok))
 
 same-length : tie.Need-same-length
-same-length c = search needs
+same-length c = sized (c .before) .pair-sizes .kept .1 .0
 
 returns : tie.Need-returns
 returns c = searched-many (told (c .before)) (c .if1 .taken) refl
 
 cast-j : tie.Need-cast-j
-cast-j c = search needs
+cast-j c = pair-at c .index
 
 mul-z : tie.Need-mul-z
-mul-z c = search needs
+mul-z c = pair-at c .bytes
 
 slice-copy-out-z : tie.Need-slice-copy-out-z
-slice-copy-out-z c =
-    let p = c .before .before .before .before .before .before .before .before in
-    omega (arith, below c, p .pair-sizes .ensures .long, p .before .before .pre .size)
+slice-copy-out-z c = pair-at c .below
 
 add-peak-at : tie.Need-add-peak-at
-add-peak-at c = omega (arith, below (c .before))
+add-peak-at c = let e = c .before in placed (sized (e .before)) .each _ (lt→ltb _ _ (below e)) .index
 
 cast-peak-at : tie.Need-cast-peak-at
 cast-peak-at c = let g = c .before .before .before .before .before in size-casts (g .greatest .ensures) (g .greatest .ok)
@@ -142,10 +163,10 @@ second-of-requires : tie.Need-second-of-requires
 second-of-requires c κs = pair-small (c .before .before)
 
 peak-at-requires : tie.Need-peak-at-requires
-peak-at-requires c κs = search needs
+peak-at-requires c κs = tt
 
 same-length-2 : tie.Need-same-length-2
-same-length-2 c = search needs
+same-length-2 c = sized (c .before .before .before .before .before) .pair-sizes .kept .1 .0
 
 returns-2 : tie.Need-returns-2
 returns-2 c =

@@ -1,15 +1,17 @@
 -- `nearest::find_peak` meets its contract. Assumes nothing.
-use Prim.Native.Nat.{ℕ, _≤_}
+use Prim.Native.Nat.{ℕ, _+_, _*_, _^_, _≤_, _<_}
 use mathlib.Core.Path.{_≡_, refl, sym, subst, _∙_}
 use mathlib.Core.Bool.{Bool, true, false, cond, false≢true}
 use mathlib.Core.List.{List}
 use native.Mathlib.Omega.{arith}
-use lib.Dec.{ltb}
+use native.Mathlib.Nat.{le-refl, le-trans}
+use lib.Dec.{ltb, lt→ltb}
 use lib.IntN.{ℤ}
-use lib.Pow.{pow-mono}
-use borrow.Author.Needs.{needs}
+use lib.ListN.{length}
+use lib.Pow.{pow-mono, pow-pos}
 use borrow.Author.Tests.{ltb-true}
 use Rattle.area.specs.Area.{Bits}
+use Rattle.area.specs.Places.{Places, places}
 use Rattle.nearest.specs.Nearest.{quartered, partExponent}
 use Rattle.nearest.proofs.Lent.{Layout, Packing, lent-summable, search-part, found-peak, front-kept}
 use Rattle.nearest.proofs.Halves.{halves}
@@ -39,6 +41,10 @@ packing {m} true e ek some few a =
 packing false e ek some few a = halves a (omega arith) (omega arith)
 
 -- ---- the word in the area, as the code has its sizes
+
+-- r numbers are lent after the n places of the word, in an area of 2 n
+lent-placed : {n r k l : ℕ} (j : ℕ) → r ≡ 2 ^ j → r ≤ n → k * 4 < 2 ^ 63 → k ≡ n + n → l ≡ k → Places n r l
+lent-placed {r = r} j power h small room same = places (omega arith) (lt→ltb 0 r (omega (arith, pow-pos j))) (omega arith)
 
 module _ (c : tie.After-part-exponent) where
   abbrev m : ℕ
@@ -78,13 +84,31 @@ module _ (c : tie.After-size2) where
       let s = b .before .before in
       packing (b .by-quarters .result) (b .by-quarters .ensures) (c .before .part-exponent .ensures) (s .pre .0) (s .pre .1) layout
 
+  lent : {r l : ℕ} (j : ℕ) → r ≡ 2 ^ j → r ≤ n → l ≡ length xs → Places n r l
+  lent j power h same = lent-placed j power h (c .before .before .before .before .good .1 .0 .1) (layout .room) same
+
+-- the packed signs, and then the room for the search, in the area as it is there
+signs-at : (c : tie.After-area) → let s = c .before .before .before in Places (n s) (q s) (length (c .before .pack .last .1 .1 .0))
+signs-at c =
+    let s = c .before .before .before in
+    lent s (k (s .before)) (layout s .part) (layout s .within) (c .before .pack .kept .1 .1 .0)
+
+abbrev signed : tie.After-area2 → tie.After-area
+signed c = c .before .before .before
+
+whole-at : {l : ℕ} (c : tie.After-area2) → let p = signed c .before in let s = p .before .before in l ≡ length (p .pack .last .1 .1 .0) → Places (n s) (n s) l
+whole-at c same =
+    let p = signed c .before in
+    let s = p .before .before in
+    lent s (m (s .before)) (layout s .places) (le-refl _) (same ∙ p .pack .kept .1 .1 .0)
+
 -- ---- the needs
 
 size-requires : tie.Need-size-requires
-size-requires c κs = search needs
+size-requires c κs = c .pre .1
 
 by-quarters-requires : tie.Need-by-quarters-requires
-by-quarters-requires c κs = search needs
+by-quarters-requires c κs = tt
 
 part-exponent-requires : tie.Need-part-exponent-requires
 part-exponent-requires c κs =
@@ -92,25 +116,25 @@ part-exponent-requires c κs =
     (s .pre .0, λ e. omega (arith, quartered-between (s .args .m) (sym (c .by-quarters .ensures) ∙ e) .0))
 
 size-requires-2 : tie.Need-size-requires-2
-size-requires-2 c κs = omega (arith, exponent-below c)
+size-requires-2 c κs = le-trans (exponent-below c) (c .before .before .before .pre .1)
 
 pack-requires : tie.Need-pack-requires
 pack-requires c κs = packed (c .before) .packable
 
 add-e : tie.Need-add-e
-add-e c = search (needs, layout (c .before .before .before))
+add-e c = signs-at c .end
 
 mul-correlate : tie.Need-mul-correlate
-mul-correlate c = search needs
+mul-correlate c = signs-at c .start .bytes
 
 sub-correlate : tie.Need-sub-correlate
-sub-correlate c = search needs
+sub-correlate c = signs-at c .ordered
 
 part-correlate-start : tie.Need-part-correlate-start
-part-correlate-start c = search needs
+part-correlate-start c = signs-at c .ordered
 
 part-correlate-end : tie.Need-part-correlate-end
-part-correlate-end c = search (needs, layout (c .before .before .before))
+part-correlate-end c = signs-at c .within
 
 correlate-requires : tie.Need-correlate-requires
 correlate-requires c κs =
@@ -118,19 +142,19 @@ correlate-requires c κs =
     lent-summable (packed s) (packed s .written (c .before .before .pack .ensures))
 
 add-end : tie.Need-add-end
-add-end c = search needs
+add-end c = whole-at c refl .end
 
 mul-search : tie.Need-mul-search
-mul-search c = search needs
+mul-search c = whole-at c refl .start .bytes
 
 sub-search : tie.Need-sub-search
-sub-search c = search needs
+sub-search c = whole-at c refl .ordered
 
 part-search-start : tie.Need-part-search-start
-part-search-start c = search needs
+part-search-start c = whole-at c refl .ordered
 
 part-search-end : tie.Need-part-search-end
-part-search-end c = search needs
+part-search-end c = whole-at c (c .area2 .given .1) .within
 
 search-requires : tie.Need-search-requires
 search-requires c κs =
@@ -140,7 +164,8 @@ search-requires c κs =
     packed s .searchable (search-part (packed s) w (t .correlate .ensures))
 
 same-length : tie.Need-same-length
-same-length c = search needs
+same-length c = let t = c .before .before .before in
+    omega (arith, c .area3 .given .1, t .area2 .given .1, signed t .before .pack .kept .1 .1 .0)
 
 returns : tie.Need-returns
 returns c =

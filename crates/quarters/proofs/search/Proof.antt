@@ -1,13 +1,17 @@
 -- The sizes of the quads' pairs, their greatest and its key lead to the peak. Assumes nothing.
-use Prim.Native.Nat.{ℕ, _+_, _-_, _%_, _≤_, _<_}
+use Prim.Native.Nat.{ℕ, _+_, _-_, _*_, _%_, _≤_, _<_}
 use mathlib.Core.Path.{_≡_, refl, _∙_}
 use mathlib.Core.List.{List}
 use native.Mathlib.Omega.{arith}
+use native.Mathlib.Nat.{le-refl, le-of-lt}
 use lib.IntN.{ℤ}
-use lib.ListN.{take, drop}
-use borrow.Author.Needs.{needs}
+use lib.ListN.{length, take, drop}
+use mir.Syntax.{w64}
+use mir.Val.{Fits}
+use lib.Dec.{lt→ltb}
 use Rattle.area.specs.Area.{at}
 use Rattle.area.specs.Numbers.{stored}
+use Rattle.area.specs.Places.{Place, Places, places, place as place-of}
 use Rattle.peaks.specs.Found.{Held, held-sizes, held-searched, Searched, searched-many, searched-peak, searched-place}
 use Rattle.peaks.specs.Peaks.{Sizes}
 use Rattle.peaks.specs.Stored.{number-read, as-it-is, size-whole, size-casts, peak-as}
@@ -18,6 +22,21 @@ use Rattle.quarters.specs.Quarters.{firsts, lasts}
 use Rattle.quarters.specs.QuadSizes.{sizes-held, sizes-small, lowOf, low-below, first-at, last-at}
 use Rattle.quarters.proofs.search.Statement.{statement}
 use Rattle.quarters.proofs.search.Tie as tie
+
+-- ---- the places in a part of n numbers: q quads, and the sizes of the pairs after them
+
+module _ {q n : ℕ} (few : q ≤ 32) (size : 4 * q ≡ n) where
+  sizes-placed : 0 < q → Places q (q + q) n
+  sizes-placed some = places (omega arith) (lt→ltb 0 (q + q) (omega arith)) (omega arith)
+
+  quad-placed : {j : ℕ} → j < q → Place j n
+  quad-placed l = place-of (omega arith) (omega arith)
+
+pairs-fit : {q j : ℕ} → q ≤ 32 → j ≤ q + q → Fits w64 (q + q + j)
+pairs-fit few l = record { fits = omega arith }
+
+key-fits : (k : ℕ) → Fits w64 (k % 65536)
+key-fits k = record { fits = omega arith }
 
 -- ---- the sizes
 
@@ -47,6 +66,9 @@ sizes-are c = held-sizes (pairs-few c) (sizes-at c) (λ i l. sizes-small (number
 quads-at : (c : tie.After-sizes) → Quads (number c) (new c)
 quads-at c = sized-quads (c .sizes .ensures) (c .before .before .pre)
 
+placed : (c : tie.After-sizes) → Places (number c) (number c + number c) (length (new c))
+placed c = let k = quads-at c in sizes-placed (k .few) (k .size) (k .some)
+
 -- ---- the greatest and its key
 
 abbrev sized : tie.After-keys → tie.After-sizes
@@ -72,6 +94,9 @@ place-below c = searched-place (told (c .before)) (c .if1 .left)
 
 quad-below : (c : tie.Else1) → low c < number (sized (c .before))
 quad-below c = low-below (sized (c .before) .before .before .pre) (place c)
+
+quad-at : (c : tie.Else1) → Place (low c) (length (new (sized (c .before))))
+quad-at c = let k = quads-at (sized (c .before)) in quad-placed (k .few) (k .size) (quad-below c)
 
 -- ---- the pair
 
@@ -99,40 +124,40 @@ last-is c =
 -- ---- the needs
 
 sizes-requires : tie.Need-sizes-requires
-sizes-requires c κs = search needs
+sizes-requires c κs = c .before .pre
 
 add-h : tie.Need-add-h
-add-h c = search needs
+add-h c = record { fits = omega (arith, pairs-few (c .before)) }
 
 add-e : tie.Need-add-e
-add-e c = search needs
+add-e c = placed (c .before) .end
 
 mul-greatest : tie.Need-mul-greatest
-mul-greatest c = search needs
+mul-greatest c = placed (c .before) .start .bytes
 
 sub-greatest : tie.Need-sub-greatest
-sub-greatest c = search needs
+sub-greatest c = placed (c .before) .ordered
 
 part-greatest-start : tie.Need-part-greatest-start
-part-greatest-start c = search needs
+part-greatest-start c = placed (c .before .before) .ordered
 
 part-greatest-end : tie.Need-part-greatest-end
-part-greatest-end c = search needs
+part-greatest-end c = placed (c .before .before) .within
 
 greatest-requires : tie.Need-greatest-requires
 greatest-requires c κs = sizes-are (c .before .before .before)
 
 mul-keys : tie.Need-mul-keys
-mul-keys c = search needs
+mul-keys c = placed (c .before .before .before .before) .start .bytes
 
 sub-keys : tie.Need-sub-keys
-sub-keys c = search needs
+sub-keys c = placed (c .before .before .before .before) .ordered
 
 part-keys-start : tie.Need-part-keys-start
-part-keys-start c = search needs
+part-keys-start c = placed (c .before .before .before .before .before) .ordered
 
 part-keys-end : tie.Need-part-keys-end
-part-keys-end c = search needs
+part-keys-end c = placed (c .before .before .before .before .before) .within
 
 keys-requires : tie.Need-keys-requires
 keys-requires c κs =
@@ -140,22 +165,22 @@ keys-requires c κs =
     (sizes-are (g .before .before .before .before), size-whole (g .greatest .ensures) (g .greatest .ok))
 
 same-length : tie.Need-same-length
-same-length c = search needs
+same-length c = sized (c .before) .sizes .kept .1 .0
 
 returns : tie.Need-returns
 returns c = searched-many (told (c .before)) (c .if1 .taken) refl
 
 cast-j : tie.Need-cast-j
-cast-j c = search needs
+cast-j c = key-fits (c .before .keys .result)
 
 sub-low : tie.Need-sub-low
-sub-low c = search needs
+sub-low c = sized (c .before) .before .before .pre .some
 
 mul-pair-at : tie.Need-mul-pair-at
-mul-pair-at c = omega (arith, quad-below c)
+mul-pair-at c = quad-at c .bytes
 
 slice-copy-out-pair-at : tie.Need-slice-copy-out-pair-at
-slice-copy-out-pair-at c = omega (arith, quad-below c, quads-at (sized (c .before)) .size)
+slice-copy-out-pair-at c = quad-at c .below
 
 pair-at-requires : tie.Need-pair-at-requires
 pair-at-requires c κs =
@@ -165,19 +190,19 @@ pair-at-requires c κs =
 add-peak-at : tie.Need-add-peak-at
 add-peak-at c =
     let e = c .before .before in
-    omega (arith, place-below e, pairs-few (sized (e .before)))
+    pairs-fit (sized (e .before) .before .before .pre .few) (le-of-lt (place-below e))
 
 cast-peak-at : tie.Need-cast-peak-at
 cast-peak-at c = let g = c .before .before .before .before .before .before in size-casts (g .greatest .ensures) (g .greatest .ok)
 
 add-peak-at-2 : tie.Need-add-peak-at-2
-add-peak-at-2 c = omega (arith, pairs-few (sized (c .before .before .before)))
+add-peak-at-2 c = pairs-fit (sized (c .before .before .before) .before .before .pre .few) (le-refl _)
 
 peak-at-requires : tie.Need-peak-at-requires
-peak-at-requires c κs = search needs
+peak-at-requires c κs = tt
 
 same-length-2 : tie.Need-same-length-2
-same-length-2 c = search needs
+same-length-2 c = sized (c .before .before .before .before .before .before) .sizes .kept .1 .0
 
 returns-2 : tie.Need-returns-2
 returns-2 c =

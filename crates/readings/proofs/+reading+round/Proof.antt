@@ -2,10 +2,10 @@
 -- measures are 2 r and 2 r + 1. Assumes nothing.
 use Prim.Native.Nat.{ℕ, suc, _+_, _-_, _*_, _^_, _≤_, _<_}
 use native.Mathlib.Omega.{arith}
-use mathlib.Core.Path.{_≡_, _∙_}
+use native.Mathlib.Nat.{le-of-lt, le-of-suc-le-suc, le-trans}
+use mathlib.Core.Path.{_≡_, refl, _∙_}
 use lib.ListN.{length}
 use lib.Pow.{pow-pos, pow-mono}
-use borrow.Author.Needs.{needs}
 use borrow.Fn.Kinds.{In, Out}
 use borrow.Fn.PlainCycle.{Measures, is, falls, and}
 use borrow.Rule.Slice.PartMut.{putMid}
@@ -94,12 +94,33 @@ round-Inv m r rounds left area₀ n rest used₀ i₀ i-end area used i = Poll (
 abbrev round-μ : round-lts.MeasureT-loop
 round-μ m r rounds left area₀ n rest used₀ i₀ i-end area used i = i-end - i
 
+-- ---- arithmetic over plain numbers: at a place of the code omega reads all that is known there
+
 -- a number as small as a place fits
 small-fits : {x : ℕ} → x ≤ 1000000 → x < 2 ^ 64
 small-fits h = omega arith
 
+next-fits : {i e : ℕ} → i < e → e < 2 ^ 64 → i + 1 < 2 ^ 64
+next-fits h g = omega arith
+
 closer : {e i : ℕ} → i < e → e - (i + 1) < e - i
 closer h = omega arith
+
+-- the measures fall
+falls-round : {r t : ℕ} → 2 ≤ r → 2 * r ≡ t → 2 * (r - 1) + 1 < t
+falls-round h e = omega arith
+
+falls-reading : {t : ℕ} (r : ℕ) → 2 * r + 1 ≡ t → 2 * r < t
+falls-reading r e = omega arith
+
+-- an area a, as long as b was, has room
+room-two : {a b p : ℕ} (q : ℕ) → a ≡ b → p ≡ q → 4 * q ≤ b → 2 * p ≤ a
+room-two q e f h = omega arith
+
+room-eight : {a b : ℕ} (m : ℕ) → a ≡ b → 4 * 2 ^ suc m ≤ b → 8 * 2 ^ m ≤ a
+room-eight m e h = omega arith
+
+-- ---- places and needs
 
 -- a place of the code, or a need there, at the measure t
 abbrev Reading : ℕ → ((g : reading-lts.Claims) (pre : In 1 reading-kinds.ps) (post : Out 1 reading-kinds.ps reading-kinds.r)
@@ -139,7 +160,7 @@ module _ (t : ℕ) where
     up = up (turned c .before .before);
     turn = turned c .loop .inv;
     more = rounded c .before .before .loop-test .taken;
-    room = omega (arith, begun c .pre .1 .room);
+    room = room-two _ refl refl (begun c .pre .1 .room);
     same-length = rounded c .round .kept .1 .1 .1 .1 .0;
     voted = rounded c .round .ensures;
     done = c .before .leaves .given .1;
@@ -160,64 +181,69 @@ module _ (t : ℕ) where
     flipped = c .flip .ensures .1;
   }
 
+  -- the area after the flips is as long as the one given
+  flip-long : (c : Reading t reading-lts.After-flip) → length (c .flip .last .1 .0) ≡ length (begun (flipping c) .args .area .now)
+  flip-long c = c .flip .kept .1 .0 ∙ made (flipping c) .same-length ∙ made (flipping c) .turn .long
+
   reading-zero-order-requires : Reading t reading-lts.Need-zero-order-requires
   reading-zero-order-requires c κs = (c .before .before .pre .1 .small, c .before .before .pre .1 .bits)
 
   reading-same-length : Reading t reading-lts.Need-same-length
-  reading-same-length c = search needs
+  reading-same-length c = c .before .zero-order .kept .1 .0
 
   reading-returns : Reading t reading-lts.Need-returns
   reading-returns c = let z = c .before .zero-order .ensures in
       (read-zero _ _ _ _ _ _ (c .before .before .before .if1 .taken) (z .0), z .1)
 
   reading-changed-requires : Reading t reading-lts.Need-changed-requires
-  reading-changed-requires c κs = search needs
+  reading-changed-requires c κs = tt
 
   reading-returns-2 : Reading t reading-lts.Need-returns-2
   reading-returns-2 c = changed-tells (c .changed .ensures) (read-none _ _ _ _ _ _ (c .before .before .if2 .taken) (c .before .if3 .taken))
 
   reading-first-order-requires : Reading t reading-lts.Need-first-order-requires
   reading-first-order-requires c κs = let s = c .before .before .before .before in
-      (s .pre .1 .some, s .pre .1 .small, omega (arith, s .pre .1 .room), s .pre .1 .bits)
+      (s .pre .1 .some, s .pre .1 .small, room-two _ refl refl (s .pre .1 .room), s .pre .1 .bits)
 
   reading-same-length-2 : Reading t reading-lts.Need-same-length-2
-  reading-same-length-2 c = search needs
+  reading-same-length-2 c = c .before .first-order .kept .1 .0
 
   reading-returns-3 : Reading t reading-lts.Need-returns-3
   reading-returns-3 c = let z = c .before .first-order .ensures in
       (read-one _ _ _ _ _ _ (c .before .before .before .before .if2 .taken) (c .before .before .before .if3 .left) (z .0), z .1)
 
   reading-size-requires : Reading t reading-lts.Need-size-requires
-  reading-size-requires c κs = search needs
+  reading-size-requires c κs = c .before .before .pre .1 .small
 
   reading-loop-holds : Reading t reading-lts.Need-loop-holds
   reading-loop-holds c = let s = c .before .before .before in
       turn-first _ _ _ _ _ (above (c .before)) (s .pre .1 .some) (s .pre .1 .bits)
 
   reading-sub-round : Reading t reading-lts.Need-sub-round
-  reading-sub-round c = search needs
+  reading-sub-round c = c .before .before .before .before .before .pre .1 .some
 
   reading-sub-round-2 : Reading t reading-lts.Need-sub-round-2
-  reading-sub-round-2 c = search needs
+  reading-sub-round-2 c = le-of-lt (above (c .before .before .before))
 
   reading-sub-round-3 : Reading t reading-lts.Need-sub-round-3
-  reading-sub-round-3 c = search needs
+  reading-sub-round-3 c = c .before .loop .inv .few
 
   reading-round-requires : Reading t reading-lts.Need-round-requires
   reading-round-requires c κs = let l = c .before .before in
       let e = l .before .before in (
-        omega (arith, above e, e .before .before .pre .0),
+        falls-round (above e) (e .before .before .pre .0),
         (ready-round _ (above e) (e .before .before .pre .1) (l .loop .inv .long) (l .loop .inv .bits), omega (arith, above e)),
       )
 
   reading-enum-told : Reading t reading-lts.Need-enum-told
-  reading-enum-told c = search needs
+  reading-enum-told c = c .match .keys1
 
   reading-changed-requires-2 : Reading t reading-lts.Need-changed-requires-2
-  reading-changed-requires-2 c κs = search needs
+  reading-changed-requires-2 c κs = tt
 
   reading-same-length-3 : Reading t reading-lts.Need-same-length-3
-  reading-same-length-3 c = search needs
+  reading-same-length-3 c = let r = c .before .before .before .before in
+      r .round .kept .1 .1 .1 .1 .0 ∙ r .before .before .before .loop .inv .long
 
   reading-returns-4 : Reading t reading-lts.Need-returns-4
   reading-returns-4 c = let e = c .before in
@@ -226,13 +252,13 @@ module _ (t : ℕ) where
       changed-tells (c .changed2 .ensures) (turn-exhausted (l .loop .inv) (r .before .before .loop-test .taken) (r .round .ensures) (e .enum-told .given .1))
 
   reading-enum-known-leaves : Reading t reading-lts.Need-enum-known-leaves
-  reading-enum-known-leaves c = search needs
+  reading-enum-known-leaves c = c .match .keys2
 
   reading-add-used : Reading t reading-lts.Need-add-used
   reading-add-used c = record { fits = omega (arith, begun c .pre .1 .few, made-few (made c)) }
 
   reading-add-k : Reading t reading-lts.Need-add-k
-  reading-add-k c = search needs
+  reading-add-k c = record { fits = next-fits (made c .more) (begun c .fits .rounds .fits) }
 
   reading-flip-requires : Reading t reading-lts.Need-flip-requires
   reading-flip-requires c κs = made-flips (made (c .before)) _ (turned (c .before) .before .size .ensures) (begun (c .before) .pre .1 .small)
@@ -241,12 +267,12 @@ module _ (t : ℕ) where
   reading-settle-requires c κs = let f = c .before .before .before in
       let k = flipping f in (
         begun k .pre .1 .small,
-        omega (arith, f .flip .kept .1 .0, made k .same-length, made k .turn .long, begun k .pre .1 .room),
+        room-two _ (flip-long f) refl (begun k .pre .1 .room),
         flips-bits (flipped f),
       )
 
   reading-same-length-4 : Reading t reading-lts.Need-same-length-4
-  reading-same-length-4 c = search needs
+  reading-same-length-4 c = c .before .settle .kept .1 .1 .1 .1 .0 ∙ flip-long (c .before .before .before .before .before)
 
   reading-returns-5 : Reading t reading-lts.Need-returns-5
   reading-returns-5 c = let s = c .before .settle .ensures in
@@ -255,16 +281,16 @@ module _ (t : ℕ) where
       (flips-settled f e (s .0) (s .1 .0), record { same = λ q. flips-kept f e (s .1 .1 q) (s .1 .0) })
 
   reading-loop-less : Reading t reading-lts.Need-loop-less
-  reading-loop-less c = search needs
+  reading-loop-less c = closer (made (flipping (c .before .before)) .more)
 
   reading-loop-again : Reading t reading-lts.Need-loop-again
   reading-loop-again c = flips-again (flipped (c .before .before)) (c .if4 .left)
 
   reading-changed-requires-3 : Reading t reading-lts.Need-changed-requires-3
-  reading-changed-requires-3 c κs = search needs
+  reading-changed-requires-3 c κs = tt
 
   reading-same-length-5 : Reading t reading-lts.Need-same-length-5
-  reading-same-length-5 c = search needs
+  reading-same-length-5 c = c .before .before .loop .inv .long
 
   reading-returns-6 : Reading t reading-lts.Need-returns-6
   reading-returns-6 c = changed-tells (c .changed3 .ensures) (turn-last (c .before .before .loop .inv) (c .before .loop-test .left))
@@ -318,13 +344,13 @@ module _ (t : ℕ) where
   stage c =
       let s = entry (first c) in
       record {
-        some = omega (arith, s .pre .1 .0 .order, s .pre .1 .1);
-        small = omega (arith, s .pre .1 .0 .small);
-        order = omega (arith, s .pre .1 .0 .order);
+        some = le-trans (s .pre .1 .1) (le-of-suc-le-suc (s .pre .1 .0 .order));
+        small = le-of-suc-le-suc (s .pre .1 .0 .small);
+        order = le-of-suc-le-suc (s .pre .1 .0 .order);
         cap = s .pre .1 .0 .few;
-        room = omega (arith, start-long (zeroed (first c)), s .pre .1 .0 .room);
+        room = room-eight _ (start-long (zeroed (first c))) (s .pre .1 .0 .room);
         poll = c .before .loop .inv;
-        more = omega (arith, c .loop-test .taken, places (sized (first c)));
+        more = rw (places (sized (first c))) at (c .loop-test .taken);
       }
 
   abbrev turn2 : Rounding t round-lts.After-area2 → Rounding t round-lts.In-loop
@@ -332,8 +358,8 @@ module _ (t : ℕ) where
 
   rest-fits : (c : Rounding t round-lts.After-area2) → 2 * half (first (turn2 c)) ≤ length (c .before .project .last .1 .1 .0)
   rest-fits c =
-      let s = stage (turn2 c) in
-      omega (arith, c .before .project .kept .1 .1 .0, s .poll .long, s .room, places (sized (first (turn2 c))))
+      let f = first (turn2 c) in
+      room-two _ (c .before .project .kept .1 .1 .0 ∙ turn2 c .before .loop .inv .long ∙ start-long (zeroed f)) (places (sized f)) (entry f .pre .1 .0 .room)
 
   lent : (c : Rounding t round-lts.After-area2)
       → Lent (round-at-of (first (turn2 c))) (turn2 c .before .loop .area) (c .before .project .last .1 .1 .0)
@@ -362,7 +388,7 @@ module _ (t : ℕ) where
   cast c = record { answered = answered (c .before .before .before); counts = c .before .cast .ensures .0; votes = c .before .cast .ensures .1 }
 
   round-size-requires : Rounding t round-lts.Need-size-requires
-  round-size-requires c κs = search needs
+  round-size-requires c κs = le-of-lt (c .pre .1 .0 .small)
 
   round-mul-n : Rounding t round-lts.Need-mul-n
   round-mul-n c = record { fits = omega (arith, small c) }
@@ -383,7 +409,7 @@ module _ (t : ℕ) where
   round-part-fill-end c = omega (arith, places c, c .before .pre .1 .0 .room)
 
   round-fill-requires : Rounding t round-lts.Need-fill-requires
-  round-fill-requires c κs = search needs
+  round-fill-requires c κs = tt
 
   round-sub-i-end : Rounding t round-lts.Need-sub-i-end
   round-sub-i-end c = omega (arith, places (sized c), pow-pos (suc (entry c .args .m)))
@@ -413,7 +439,7 @@ module _ (t : ℕ) where
   round-part-reading-end c = omega arith
 
   round-reading-requires : Rounding t round-lts.Need-reading-requires
-  round-reading-requires c κs = (omega (arith, entry (first (turn2 (c .before))) .pre .0), lent-ready (lent (c .before)))
+  round-reading-requires c κs = (falls-reading _ (entry (first (turn2 (c .before))) .pre .0), lent-ready (lent (c .before)))
 
   round-add-cast : Rounding t round-lts.Need-add-cast
   round-add-cast c = record { fits = small-fits (next-small (turn3 c)) }
@@ -422,7 +448,7 @@ module _ (t : ℕ) where
   round-cast-requires c κs = answered-cast (answered (c .before))
 
   round-enum-told : Rounding t round-lts.Need-enum-told
-  round-enum-told c = search needs
+  round-enum-told c = c .match .keys1
 
   round-same-length : Rounding t round-lts.Need-same-length
   round-same-length c = let d = c .before .before in
@@ -433,7 +459,7 @@ module _ (t : ℕ) where
       poll-spent (from (first (turn4 d))) (cast-long (cast d)) (cast-front (cast d)) (cast-over (cast d) (c .enum-told .given .1))
 
   round-enum-known-leaves : Rounding t round-lts.Need-enum-known-leaves
-  round-enum-known-leaves c = search needs
+  round-enum-known-leaves c = c .match .keys2
 
   round-add-used : Rounding t round-lts.Need-add-used
   round-add-used c = let d = c .before .before .before in
@@ -453,7 +479,7 @@ module _ (t : ℕ) where
 
   round-returns-2 : Rounding t round-lts.Need-returns-2
   round-returns-2 c = let b = c .before .before in
-      poll-done (from b) (c .before .loop .inv) (omega (arith, c .loop-test .left, places (sized b)))
+      poll-done (from b) (c .before .loop .inv) (rw (places (sized b)) at (c .loop-test .left))
 
 pub +reading+round-spec : {M : Type 1} → statement M
 +reading+round-spec =
