@@ -1,8 +1,14 @@
 -- `cosets::vote_each` meets its contract: a turn adds the vote of one coset at both its members. Assumes nothing.
-use Prim.Native.Nat.{_-_, _^_, _≤_}
+use Prim.Native.Nat.{ℕ, _+_, _-_, _*_, _^_, _≤_, _<_}
+use mathlib.Core.List.{List}
 use native.Mathlib.Omega.{arith}
-use lib.ListN.{length-set}
+use lib.Bits.{bitXor}
+use lib.ListN.{length, length-set}
+use lib.IntN.{ℤ}
+use mir.Syntax.{w64}
+use mir.Val.{Fits}
 use borrow.Author.Needs.{needs}
+use Rattle.area.specs.Places.{Place, place, index-fits}
 use Rattle.cosets.proofs.Turns.{members, number-le, direction-lt}
 use Rattle.cosets.proofs.VoteLoops.{VotedBelow, voted-none, voted-all, Turn, one-fits, two-fits, voted-more}
 use Rattle.cosets.proofs.vote_each.Statement.{statement}
@@ -42,77 +48,111 @@ turn c =
       voted = c .before .before .loop .inv .1;
     }
 
+-- the turn's places in an area of l numbers, r being p XOR b
+record Rooms (n q p r l : ℕ) : Type 0 where
+  four : Fits w64 (4 * n)
+  twice : Fits w64 (2 * n)
+  decoded : Place (4 * n + q) l
+  one : Place p l
+  two : Place r l
+  votes-one : Place (2 * n + p) l
+  votes-two : Place (2 * n + r) l
+  next : Fits w64 (q + 1)
+
+all-rooms : {m b n q p : ℕ} {xs ys : List ℤ} → Turn m b xs n q p ys → length xs * 4 < 2 ^ 63 → Rooms n q p (bitXor p b) (length ys)
+all-rooms {n = n} {ys = ys} t fits =
+    let room : 5 * n ≤ length ys = omega (arith, t .voted .long) in
+    let small : length ys * 4 < 2 ^ 63 = omega (arith, t .voted .long) in
+    record {
+      four = index-fits small (omega arith);
+      twice = index-fits small (omega arith);
+      decoded = place small (omega arith);
+      one = place small (omega arith);
+      two = place small (omega arith);
+      votes-one = place small (omega arith);
+      votes-two = place small (omega arith);
+      next = index-fits small (omega arith);
+    }
+
+rooms : (c : tie.After-insert-zero Inv-loop μ-loop) → let s = c .before .before .before .before .before in
+    Rooms (c .before .before .before .before .size .result) (c .before .before .loop .q) (c .insert-zero .result) (bitXor (c .insert-zero .result) (s .args .b)) (length (c .before .before .loop .area))
+rooms c = all-rooms (turn c) (c .before .before .before .before .before .good .1 .1 .0 .1)
+
+-- the loop's next number
+goes-on : {e i : ℕ} → i < e → (i + 1 ≤ e) × (e - (i + 1) < e - i)
+goes-on h = (omega arith, omega arith)
+
 mul-vote : tie.Need-mul-vote Inv-loop μ-loop
-mul-vote c = search needs
+mul-vote c = rooms c .four
 
 add-vote : tie.Need-add-vote Inv-loop μ-loop
-add-vote c = search needs
+add-vote c = rooms c .decoded .index
 
 mul-vote-2 : tie.Need-mul-vote-2 Inv-loop μ-loop
-mul-vote-2 c = search needs
+mul-vote-2 c = rooms c .decoded .bytes
 
 slice-copy-out-vote : tie.Need-slice-copy-out-vote Inv-loop μ-loop
-slice-copy-out-vote c = search needs
+slice-copy-out-vote c = rooms c .decoded .below
 
 mul-vote-3 : tie.Need-mul-vote-3 Inv-loop μ-loop
-mul-vote-3 c = search needs
+mul-vote-3 c = rooms (c .before) .one .bytes
 
 slice-copy-out-vote-2 : tie.Need-slice-copy-out-vote-2 Inv-loop μ-loop
-slice-copy-out-vote-2 c = search needs
+slice-copy-out-vote-2 c = rooms (c .before) .one .below
 
 mul-vote-4 : tie.Need-mul-vote-4 Inv-loop μ-loop
-mul-vote-4 c = record { fits = omega (arith, turn (c .before .before) .coset .partner) }
+mul-vote-4 c = rooms (c .before .before) .two .bytes
 
 slice-copy-out-vote-3 : tie.Need-slice-copy-out-vote-3 Inv-loop μ-loop
-slice-copy-out-vote-3 c = omega (arith, turn (c .before .before) .coset .partner)
+slice-copy-out-vote-3 c = rooms (c .before .before) .two .below
 
 mul-area : tie.Need-mul-area Inv-loop μ-loop
-mul-area c = search needs
+mul-area c = rooms (c .before .before .before) .twice
 
 add-area : tie.Need-add-area Inv-loop μ-loop
-add-area c = search needs
+add-area c = rooms (c .before .before .before) .votes-one .index
 
 mul-area-2 : tie.Need-mul-area-2 Inv-loop μ-loop
-mul-area-2 c = search needs
+mul-area-2 c = rooms (c .before .before .before) .votes-one .bytes
 
 slice-copy-out-area : tie.Need-slice-copy-out-area Inv-loop μ-loop
-slice-copy-out-area c = search needs
+slice-copy-out-area c = rooms (c .before .before .before) .votes-one .below
 
 add-area-2 : tie.Need-add-area-2 Inv-loop μ-loop
 add-area-2 c = one-fits (turn (c .before .before .before .before))
 
 slice-set-from-area : tie.Need-slice-set-from-area Inv-loop μ-loop
-slice-set-from-area c = search needs
+slice-set-from-area c = rooms (c .before .before .before .before) .votes-one .below
 
 mul-area-3 : tie.Need-mul-area-3 Inv-loop μ-loop
-mul-area-3 c = search needs
+mul-area-3 c = rooms (c .before .before .before .before) .twice
 
 add-area-3 : tie.Need-add-area-3 Inv-loop μ-loop
-add-area-3 c = record { fits = omega (arith, turn (c .before .before .before .before) .coset .partner) }
+add-area-3 c = rooms (c .before .before .before .before) .votes-two .index
 
 mul-area-4 : tie.Need-mul-area-4 Inv-loop μ-loop
-mul-area-4 c = record { fits = omega (arith, turn (c .before .before .before .before) .coset .partner) }
+mul-area-4 c = rooms (c .before .before .before .before) .votes-two .bytes
 
 slice-copy-out-area-2 : tie.Need-slice-copy-out-area-2 Inv-loop μ-loop
-slice-copy-out-area-2 c = rw (length-set (c .before .before .before .before .before .before .loop .area)) (omega (arith, turn (c .before .before .before .before) .coset .partner))
+slice-copy-out-area-2 c = rw (length-set (c .before .before .before .before .before .before .loop .area)) (rooms (c .before .before .before .before) .votes-two .below)
 
 add-area-4 : tie.Need-add-area-4 Inv-loop μ-loop
 add-area-4 c = two-fits (turn (c .before .before .before .before .before))
 
 slice-set-from-area-2 : tie.Need-slice-set-from-area-2 Inv-loop μ-loop
-slice-set-from-area-2 c = rw (length-set (c .before .before .before .before .before .before .before .loop .area)) (omega (arith, turn (c .before .before .before .before .before) .coset .partner))
+slice-set-from-area-2 c = rw (length-set (c .before .before .before .before .before .before .before .loop .area)) (rooms (c .before .before .before .before .before) .votes-two .below)
 
 add-q : tie.Need-add-q Inv-loop μ-loop
-add-q c = search needs
+add-q c = rooms (c .before .before .before .before .before) .next
 
 loop-less : tie.Need-loop-less Inv-loop μ-loop
-loop-less c = search needs
+loop-less c = goes-on (turn (c .before .before .before .before .before) .coset .number) .1
 
 loop-again : tie.Need-loop-again Inv-loop μ-loop
-loop-again c = (omega arith, voted-more (turn (c .before .before .before .before .before)))
+loop-again c = let t = turn (c .before .before .before .before .before) in (goes-on (t .coset .number) .0, voted-more t)
 
 same-length : tie.Need-same-length Inv-loop μ-loop
-same-length c = search needs
+same-length c = c .before .loop .inv .1 .long
 
 returns : tie.Need-returns Inv-loop μ-loop
 returns c = voted-all (c .before .before .before .before .pre .0) (c .before .loop .inv .1) (omega arith)
