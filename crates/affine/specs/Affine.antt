@@ -1,4 +1,4 @@
--- First order codewords as numbers, and four of their places repeated. Assumes nothing.
+-- First order codewords as numbers, and places of them repeated. Assumes nothing.
 use Prim.Native.Nat.{ℕ, _+_, _%_, _≤_, _<_}
 use mathlib.Core.List.{List}
 use lib.ListN.{length}
@@ -14,9 +14,9 @@ affineAt u s p = pos (affineBit u (natAbs s) p)
 abbrev pub repeated : ℤ → ℕ → List ℤ → ℕ → ℤ
 repeated t i a j = pos ((natAbs (at a (i + j)) + natAbs t) % 2)
 
--- bits at the four places from i on, and four places from b on for them with the bit t added
-pub record Repeats (i b : ℕ) (t : ℤ) (a : List ℤ) : Type 0 where
+-- bits at the k places from i on, and k places after them, from b on, for them with the bit t added
+pub record Repeats (k i b : ℕ) (t : ℤ) (a : List ℤ) : Type 0 where
   pub added : IsBit t
-  pub source : i + 4 ≤ length a
-  pub room : b + 4 ≤ length a
-  pub bits : (j : ℕ) → j < 4 → IsBit (at a (i + j))
+  pub after : i + k ≤ b
+  pub room : b + k ≤ length a
+  pub bits : (j : ℕ) → j < k → IsBit (at a (i + j))

@@ -1,6 +1,6 @@
 -- The first order codeword by blocks: a block is the first one with a bit added. Assumes nothing.
 use Prim.Native.Nat.{ℕ, _+_, _-_, _%_, _^_, _≤_, _<_}
-use native.Mathlib.Nat.{mod-add-mod, add-mod-mod}
+use native.Mathlib.Nat.{zero-add, mod-add-mod, add-mod-mod}
 use native.Mathlib.Decide.{decLt}
 use native.Mathlib.Omega.{arith}
 use mathlib.Core.Path.{_≡_, refl, sym, ap, subst, _∙_}
@@ -15,12 +15,12 @@ use borrow.Rule.Slice.PartMut.{putMid}
 use Rattle.words.specs.Sum.{tabulate}
 use Rattle.words.specs.SumLaws.{length-tabulate, getD-tabulate, tabulate-ext, tabulate-getD}
 use Rattle.words.specs.Ones.{ones-block}
-use Rattle.words.specs.Written.{Written, written-four}
+use Rattle.words.specs.Written.{Written, written-four, written-run}
 use Rattle.area.specs.Area.{at, IsBit}
 use Rattle.area.specs.AreaLaws.{is-bit, bit-back, bits-xor}
 use Rattle.area.specs.Numbers.{stored}
 use Rattle.affine.specs.Affine.{affineAt, repeated, Repeats}
-use Rattle.words.specs.Parts.{back-within}
+use Rattle.words.specs.Parts.{back-length, back-within}
 
 -- ---- what the code writes
 
@@ -38,7 +38,7 @@ module _ (k : ℕ) {t : ℤ} (e : t ≡ pos (k % 2)) where
 
 -- ---- bits repeated with a bit added
 
-module _ {i b : ℕ} {t : ℤ} {a : List ℤ} (asks : Repeats i b t a) where
+module _ {i b : ℕ} {t : ℤ} {a : List ℤ} (asks : Repeats 4 i b t a) where
   -- the sum with the number at place q, as the code computes it
   abbrev new : ℕ → ℤ
   new q = toZ w32 (bitXor (ofZ w32 (at a q)) (ofZ w32 t))
@@ -57,50 +57,76 @@ module _ {i b : ℕ} {t : ℤ} {a : List ℤ} (asks : Repeats i b t a) where
       (new-is 2 (i + 2) (omega arith) refl)
       (new-is 3 (i + 3) (omega arith) refl)
 
--- the first b numbers are the codeword's
-pub record Affine (u : ℕ) (s : ℤ) (b : ℕ) (a : List ℤ) : Type 0 where
+-- the places in two halves, one after the other
+module _ (h : ℕ) {i b : ℕ} {t : ℤ} {a : List ℤ} (asks : Repeats (h + h) i b t a) where
+  pub first-half : Repeats h i b t a
+  first-half = record { added = asks .added; after = omega arith; room = omega arith; bits = λ j l. asks .bits j (omega arith) }
+
+  module _ {z : List ℤ} (w : Written (pos 0) b h (repeated t i a) a z) where
+    -- the places still to be read are as they were
+    kept : (j : ℕ) → j < h → at z (i + h + j) ≡ at a (i + (h + j))
+    kept j l = w .below (i + h + j) (omega arith) ∙ ap (at a) (omega arith)
+
+    pub second-half : Repeats h (i + h) (b + h) t z
+    second-half = record {
+      added = asks .added;
+      after = omega arith;
+      room = omega (arith, w .long);
+      bits = λ j l. rw (kept j l) (asks .bits (h + j) (omega arith));
+    }
+
+    pub both-halves : {y : List ℤ} → Written (pos 0) (b + h) h (repeated t (i + h) z) z y → Written (pos 0) b (h + h) (repeated t i a) a y
+    both-halves v = written-run w v refl (λ j l. rw (kept j l))
+
+-- a has n numbers, and the first b of them are the codeword's
+pub record Affine (u : ℕ) (s : ℤ) (n b : ℕ) (a : List ℤ) : Type 0 where
+  pub long : length a ≡ n
   pub each : (p : ℕ) → p < b → at a p ≡ affineAt u s p
 
-pub affine-none : (u : ℕ) (s : ℤ) (a : List ℤ) → Affine u s 0 a
-affine-none u s a = record { each = λ p l. absurd (omega arith) }
-
-module _ {u : ℕ} {s : ℤ} {b : ℕ} {a : List ℤ} (w : Affine u s b a) where
-  affine-bit : (p : ℕ) → p < b → IsBit (at a p)
-  affine-bit p l = parity-bit (natAbs s + ones (bitAnd u p)) (w .each p l)
-
-  pub repeats : {t : ℤ} (i : ℕ) → IsBit t → i + 4 ≤ b → b + 4 ≤ length a → Repeats i b t a
-  repeats i bt l room = record { added = bt; source = omega arith; room = room; bits = λ j lj. affine-bit (i + j) (omega arith) }
-
-  repeated-is :
-      (h k i : ℕ) {t : ℤ} → k % 2 ^ h ≡ 0 → i < 2 ^ h → t ≡ pos (ones (bitAnd u k) % 2) → i < b
-      → pos ((natAbs (at a i) + natAbs t) % 2) ≡ affineAt u s (k + i)
-  repeated-is h k i e l et lb = rw (w .each i lb, et, ones-block h u k i e l) (ap pos (simp (mod-add-mod, add-mod-mod) (omega arith)))
-
-  -- four places more: b is place i of the block of 2 ^ h at k
-  pub affine-more :
-      {z : List ℤ} (h k i : ℕ) {t : ℤ} → k % 2 ^ h ≡ 0 → b ≡ k + i → i + 4 ≤ 2 ^ h → i + 4 ≤ b → t ≡ pos (ones (bitAnd u k) % 2)
-      → Written (pos 0) b 4 (repeated t i a) a z → (e : ℕ) → e ≡ b + 4 → Affine u s e z
-  affine-more {z} h k i e eb l lb et v n en = record {
-    each = λ p lp. elim (decLt p b) [
-      | yes q ↦ v .below p q ∙ w .each p q
-      | no q ↦
-          let j : b + (p - b) ≡ p = omega arith in
-          let c : k + (i + (p - b)) ≡ p = omega arith in
-          subst (λ (q : ℕ). at z q ≡ affineAt u s p) j
-          (v .within (p - b) (omega arith) ∙ repeated-is h k (i + (p - b)) e (omega arith) et (omega arith) ∙ ap (affineAt u s) c)
-    ];
-  }
-
-  pub affine-all : (n : ℕ) → length a ≡ n → n ≡ b → a ≡ tabulate n (affineAt u s)
-  affine-all n e eb = sym (tabulate-getD n a (pos 0) e) ∙ tabulate-ext n _ _ (λ p l. w .each p (omega arith))
-
--- the first n places, lent and written
+-- the first k places, lent and written
 pub affine-front :
-    {u n : ℕ} {s : ℤ} {z : List ℤ} (a : List ℤ) → n ≤ length a → z ≡ tabulate n (affineAt u s) → Affine u s n (putMid 0 n a z)
-affine-front {u} {n} {s} {z} a room ez = record {
-  each = λ p l.
-      ap (at (putMid 0 n a z)) {x = p} {y = 0 + p} (omega arith)
-      ∙ back-within (pos 0) 0 n a (omega arith) z (ap length ez ∙ length-tabulate n (affineAt u s)) p l
-      ∙ ap (λ (x : List ℤ). at x p) ez
-      ∙ getD-tabulate n (affineAt u s) (pos 0) p l;
-}
+    {u k : ℕ} {s : ℤ} {z : List ℤ} (a : List ℤ) → k ≤ length a → z ≡ tabulate k (affineAt u s) → Affine u s (length a) k (putMid 0 k a z)
+affine-front {u} {k} {s} {z} a room ez =
+    let size : length z ≡ k = ap length ez ∙ length-tabulate k (affineAt u s) in
+    record {
+      long = back-length (pos 0) 0 k a (omega arith) z size;
+      each = λ p l.
+          ap (at (putMid 0 k a z)) {x = p} {y = 0 + p} (omega arith)
+          ∙ back-within (pos 0) 0 k a (omega arith) z size p l
+          ∙ ap (λ (x : List ℤ). at x p) ez
+          ∙ getD-tabulate k (affineAt u s) (pos 0) p l;
+    }
+
+module _ {u : ℕ} {s : ℤ} {n b : ℕ} {a : List ℤ} (w : Affine u s n b a) where
+  pub affine-all : b ≡ n → a ≡ tabulate n (affineAt u s)
+  affine-all e = sym (tabulate-getD n a (pos 0) (w .long)) ∙ tabulate-ext n _ _ (λ p l. w .each p (omega arith))
+
+  -- a block more, of which t is the parity
+  module _ {t : ℤ} (et : t ≡ pos (ones (bitAnd u b) % 2)) where
+    -- as the calls are given it
+    given : stored t ≡ pos (ones (bitAnd u b) % 2)
+    given = bit-back (parity-bit _ et) ∙ et
+
+    pub repeats : {k : ℕ} → k ≤ b → b + k ≤ n → Repeats k 0 b (stored t) a
+    repeats l room = record {
+      added = parity-bit _ given;
+      after = omega arith;
+      room = omega (arith, w .long);
+      bits = λ j lj. parity-bit (natAbs s + ones (bitAnd u (0 + j))) (w .each (0 + j) (omega arith));
+    }
+
+    pub affine-more :
+        (h : ℕ) {z : List ℤ} → b % 2 ^ h ≡ 0 → 2 ^ h ≤ b → Written (pos 0) b (2 ^ h) (repeated (stored t) 0 a) a z → Affine u s n (b + 2 ^ h) z
+    affine-more h {z} e l v = record {
+      long = v .long ∙ w .long;
+      each = λ p lp. elim (decLt p b) [
+        | yes q ↦ v .below p q ∙ w .each p q
+        | no q ↦
+            let j : b + (p - b) ≡ p = omega arith in
+            subst (λ (q : ℕ). at z q ≡ affineAt u s q) j (v .within (p - b) (omega arith) ∙ next (p - b) (omega arith))
+      ];
+    }
+      where
+        next : (j : ℕ) → j < 2 ^ h → repeated (stored t) 0 a j ≡ affineAt u s (b + j)
+        next j lj =
+            rw (zero-add, w .each j (omega arith), given, ones-block h u b j e lj) (ap pos (simp (mod-add-mod, add-mod-mod) (omega arith)))

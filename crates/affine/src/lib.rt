@@ -31,7 +31,7 @@ fn by_place(a: &mut [i32], u: usize, s: i32)
 // Four places from b on: those from i on with the bit t added.
 // All are read before any is written, so that the compiler takes them together.
 fn repeat_four(a: &mut [i32], i: usize, b: usize, t: i32)
-    requires { ⌜ Repeats i b t (now a) ⌝ }
+    requires { ⌜ Repeats 4 i b t (now a) ⌝ }
     ensures { λ _. ⌜ Written (pos 0) b 4 (repeated t i (now (a .entry))) (now (a .entry)) (now (a .exit)) ⌝ }
 {
     let x0 = a[i] ^ t;
@@ -44,27 +44,34 @@ fn repeat_four(a: &mut [i32], i: usize, b: usize, t: i32)
     a[b + 3] = x3;
 }
 
-// The first order codeword of mask u and constant s: a parity for each of the first 4 places, one for the next 4, and one for each further
-// block of 8.
+// Eight places from b on: those from i on with the bit t added.
+fn repeat_eight(a: &mut [i32], i: usize, b: usize, t: i32)
+    requires { ⌜ Repeats 8 i b t (now a) ⌝ }
+    ensures { λ _. ⌜ Written (pos 0) b 8 (repeated t i (now (a .entry))) (now (a .entry)) (now (a .exit)) ⌝ }
+{
+    repeat_four(a, i, b, t);
+    repeat_four(a, i + 4, b + 4, t);
+}
+
+// The first order codeword of mask u and constant s: a parity for each of the first 4 places, one for the next 4, one for the next 8, and
+// one for each further block of 16.
 pub fn write_affine(a: &mut [i32], u: usize, s: i32)
     requires { ⌜ IsBit s × (u < 1024) ⌝ }
     ensures { λ _. ⌜ now (a .exit) ≡ tabulate (length (now (a .entry))) (λ p. pos ((natAbs s + ones (bitAnd u p)) % 2)) ⌝ }
 {
     let n = a.len();
-    if n == 0 {
-        return;
-    }
-    if n % 8 != 0 {
+    if n % 16 != 0 || n == 0 {
         by_place(a, u, s);
         return;
     }
     by_place(&mut a[0..4], u, s);
     repeat_four(a, 0, 4, parity(u & 4));
-    let mut b = 8;
+    repeat_eight(a, 0, 8, parity(u & 8));
+    let mut b = 16;
     while b != n {
         let t = parity(u & b);
-        repeat_four(a, 0, b, t);
-        repeat_four(a, 4, b + 4, t);
-        b += 8;
+        repeat_eight(a, 0, b, t);
+        repeat_eight(a, 8, b + 8, t);
+        b += 16;
     }
 }

@@ -9,6 +9,10 @@ use lib.IntN.{ℤ, pos, natAbs}
 abbrev pub at : List ℤ → ℕ → ℤ
 at xs p = getD xs p (pos 0)
 
+-- its absolute value: the bit, where the number is one
+abbrev pub sizeAt : List ℤ → ℕ → ℕ
+sizeAt xs p = natAbs (at xs p)
+
 pub data IsBit : ℤ → Type 0 where
   zero-bit : IsBit (pos 0)
   one-bit : IsBit (pos 1)

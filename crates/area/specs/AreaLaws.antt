@@ -80,8 +80,23 @@ wordOf-word {m} {xs} b =
 pub bits-at : {n : ℕ} {xs : List ℤ} → Bits n xs → (p : ℕ) → p < n → at xs p ≡ pos (bit (wordOf n xs) p)
 bits-at {n} {xs} b p l = bit-is (b .bits p l) ∙ ap pos (sym (bit-wordOf n xs p l))
 
+pub bits-fewer : {n k : ℕ} {xs : List ℤ} → k ≤ n → Bits n xs → Bits k xs
+bits-fewer l b = record { room = omega (arith, b .room); bits = λ p h. b .bits p (omega arith) }
+
 pub front-bits : {n : ℕ} {w : List ℕ} {xs : List ℤ} → n ≤ length xs → Front n w xs → Bits n xs
 front-bits room f = record { room = room; bits = λ p l. subst IsBit (sym (f .each p l)) (is-bit _ (f .bits p l)) }
 
 pub front-word : {n : ℕ} {w : List ℕ} {xs : List ℤ} → n ≤ length xs → Front n w xs → wordOf n xs ≡ w
 front-word {n} {w} {xs} room f = wordOf-is n xs w room (f .size) (f .each)
+
+-- bits are a word's
+pub front-of : {n : ℕ} {xs : List ℤ} → Bits n xs → Front n (wordOf n xs) xs
+front-of {n} {xs} b = record {
+  size = length-wordOf n xs (b .room);
+  each = bits-at b;
+  bits = λ p l. subst (λ (x : ℕ). x < 2) (sym (bit-wordOf n xs p l)) (bit-lt (b .bits p l));
+}
+
+-- the word stays
+pub front-kept : {n : ℕ} {w : List ℕ} {xs ys : List ℤ} → Front n w xs → ((p : ℕ) → p < n → at ys p ≡ at xs p) → Front n w ys
+front-kept f h = record { size = f .size; each = λ p l. h p l ∙ f .each p l; bits = f .bits }

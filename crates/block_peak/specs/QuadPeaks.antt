@@ -18,7 +18,7 @@ use Rattle.hadamard.specs.Correlation.{countBelow, constantOf}
 use Rattle.hadamard.specs.Peak.{Alone, Shared, else-shared, greatest-at, greatest-bound, greatest-met, one-alone}
 use Rattle.peaks.specs.declared.Peak.{Peak}
 use Rattle.peaks.specs.Peaks.{IsPeak, PeakAt}
-use Rattle.peaks.specs.Pairs.{Layout, greater-below, greater-is, greater-sign, greaterPlace, greatest-pair, pair-alone, pair-even, pairs-share, sizes}
+use Rattle.peaks.specs.Pairs.{Layout, greater-below, greater-is, greater-sign, greaterPlace, pair-alone, pair-even, pairs-share, sizes}
 use Rattle.peaks.specs.Found.{one-peak, no-peak}
 use Rattle.quads.specs.Quads.{numberOf, sumSize, differenceSize}
 use Rattle.quads.specs.Small.{sum-small, difference-small}
@@ -200,9 +200,6 @@ module _ {h top : ℕ} {xs : List ℤ} (s : Sought h xs) (t : Top xs top) where
   most : (i : ℕ) → i < h → quadSizes xs i ≤ quadSizes xs j
   most i l = t .most i (omega (arith, s .pairs))
 
-  greatest : greatestBelow (h + h) (λ u. natAbs (valueAt xs u)) ≡ top / 1024
-  greatest = greatest-pair places j below most ∙ sym (t .size)
-
   -- a size above half the places
   great-alone : h < top / 1024 → Alone (h + h) (λ u. natAbs (valueAt xs u)) (greaterPlace places j)
   great-alone l =
@@ -232,15 +229,14 @@ module _ {h top : ℕ} {xs : List ℤ} (s : Sought h xs) (t : Top xs top) where
 
   -- p is the peak at the pair x, y but for the test whether it is alone
   module _ {x y : ℤ} {a p : Peak} (ex : x ≡ firsts xs j) (ey : y ≡ lasts xs j)
-      (k : PeakAt (top % 1024) (top % 1024 + 2) (eqb (top / 1024) (h + h)) x y a)
-      (mask : p .mask ≡ a .mask) (constant : p .constant ≡ pos (constantOf x)) (whole : p .whole ≡ a .whole)
+      (k : PeakAt (top % 1024) (top % 1024 + 2) x y a)
+      (mask : p .mask ≡ a .mask) (constant : p .constant ≡ pos (constantOf x))
       (alone : p .alone ≡ loneTest h xs (top / 1024) x y) where
     one : Alone (h + h) (λ u. natAbs (valueAt xs u)) (greaterPlace places j) → p .alone ≡ true → IsPeak (h + h) (valueAt xs) p
     one only e =
         one-peak (h + h) (valueAt xs) only e
         (mask ∙ k .mask ∙ rw (ex, ey, t .mask))
         (constant ∙ ap pos (ap constantOf ex ∙ sym (greater-sign places j below)))
-        (whole ∙ k .whole ∙ ap (λ (v : ℕ). eqb v (h + h)) (sym greatest))
 
     none : Shared (h + h) (λ u. natAbs (valueAt xs u)) → p .alone ≡ false → IsPeak (h + h) (valueAt xs) p
     none = no-peak (h + h) (valueAt xs)

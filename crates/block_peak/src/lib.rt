@@ -29,11 +29,10 @@ pub fn find_peak(h: usize, quads: &[i32]) -> Peak
     let pair = quads::pair_at(j % 2, 0, quads[j / 4]);
     let x = pair.x;
     let y = pair.y;
-    let at = peaks::peak_at(j, j + 2, g as usize == h + h, x, y);
+    let at = peaks::peak_at(j, j + 2, x, y);
     Peak {
         mask: at.mask,
         alone: is_alone(quads, h, g, x, y),
         constant: at.constant,
-        whole: at.whole,
     }
 }

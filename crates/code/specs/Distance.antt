@@ -17,7 +17,7 @@ use Rattle.code.specs.Code.{IsCodeword}
 use Rattle.code.specs.Codewords.{codeword-of-low, low-of-codeword}
 use Rattle.code.specs.Degree.{Low, _⊕_, low-first, low-join, low-more, low-parity, low-plus, low-sum, second}
 use Rattle.words.specs.Sum.{sumBelow, tabulate, total}
-use Rattle.words.specs.SumLaws.{bit-tabulate, sum-ext, sum-halves, sum-le, sum-plus}
+use Rattle.words.specs.SumLaws.{bit-tabulate, sum-ext, sum-halves, sum-le, sum-plus, sum-zero}
 use Rattle.words.specs.TopBit.{by-top}
 use Rattle.words.specs.Word.{IsWord, bit, distance, indicator}
 use Rattle.words.specs.WordLaws.{indicator-lt, word-ext, word-tabulate}
@@ -157,6 +157,10 @@ distance-met m r h = (
 
     at : (p : ℕ) → p < 2 ^ m → bit d p ≡ firstOnes (m - r) p
     at p l = bit-tabulate (2 ^ m) (firstOnes (m - r)) p l
+
+pub distance-self : (m : ℕ) (w : List ℕ) → distance m w w ≡ 0
+unfolding distance
+distance-self m w = sum-zero (2 ^ m) _ (λ p l. omega arith)
 
 pub triangle : (m : ℕ) (w c d : List ℕ) → distance m c d ≤ distance m w c + distance m w d
 unfolding distance

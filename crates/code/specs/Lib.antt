@@ -9,3 +9,4 @@ pub mod MessageLaws
 pub mod Dimension
 pub mod Distance
 pub mod Halves
+pub mod FirstOrder

@@ -13,10 +13,10 @@ use lib.IntN.{ℤ, pos, negsuc, negℤ, natAbs, _+ℤ_, +ℤ-assoc, +ℤ-comm, +
 use lib.Signed.{ltZ}
 use borrow.Author.Tests.{ltb-true}
 use Rattle.words.specs.Sum.{sumBelow, sumBelowℤ, total}
-use Rattle.words.specs.SumLaws.{sum-ext, sum-prefix, sumℤ-ext, sumℤ-neg}
+use Rattle.words.specs.SumLaws.{sum-ext, sumℤ-ext, sumℤ-neg}
 use Rattle.words.specs.TopBit.{ones-zero}
 use Rattle.words.specs.Word.{IsWord, addWords, bit, distance}
-use Rattle.words.specs.WordLaws.{word-add, word-bit, word-ext}
+use Rattle.words.specs.WordLaws.{word-add, word-bit}
 use Rattle.hadamard.specs.Correlation.{affine, constantOf, correlation, sign, signed, values}
 use Rattle.hadamard.specs.AffineWords.{bit-affine, parity-xor, word-affine}
 
@@ -162,12 +162,6 @@ negative-sum : (a x n : ℕ) → negℤ (pos a) +ℤ pos x ≡ pos n → x ≡ a
 negative-sum a x n e =
     ap natAbs (sym (+ℤ-idl (pos x)) ∙ ap (λ (y : ℤ). y +ℤ pos x) (sym (+ℤ-invr (pos a))) ∙ +ℤ-assoc (pos a) (negℤ (pos a)) (pos x) ∙ ap (λ (y : ℤ). pos a +ℤ y) e)
 
--- words that differ in no place are equal
-no-distance : {m : ℕ} {w v : List ℕ} → IsWord m w → IsWord m v → distance m w v ≡ 0 → w ≡ v
-unfolding distance total
-no-distance {m} {w} {v} hw hv e =
-    word-ext hw hv (λ p l. omega (arith, sum-prefix (2 ^ m) (suc p) (λ q. (bit w q + bit v q) % 2) l, hw .bits p, hv .bits p))
-
 module _ {m : ℕ} {w : List ℕ} (hw : IsWord m w) (u : ℕ) where
   signed-distance : (s : ℕ) → s < 2 → signed s (correlation m (values w) u) +ℤ pos (2 * distance m w (affine m u s)) ≡ pos (2 ^ m)
   unfolding distance
@@ -185,10 +179,6 @@ module _ {m : ℕ} {w : List ℕ} (hw : IsWord m w) (u : ℕ) where
   near-distance =
       let z : ℤ = correlation m (values w) u in
       omega (arith, ap natAbs (ap (λ (x : ℤ). x +ℤ pos (2 * distance m w (affine m u (constantOf z)))) (sym (signed-near z)) ∙ signed-distance (constantOf z) (constantOf-lt z)))
-
-  -- a word whose correlation with u is n or -n is the nearer of u's two codewords itself
-  pub whole-affine : natAbs (correlation m (values w) u) ≡ 2 ^ m → w ≡ affine m u (constantOf (correlation m (values w) u))
-  whole-affine e = no-distance hw (word-affine m u _) (omega (arith, near-distance))
 
   -- to the other, (n + |correlation|) / 2
   pub far-distance : (s : ℕ) → s < 2 → s ≢ constantOf (correlation m (values w) u) → 2 * distance m w (affine m u s) ≡ natAbs (correlation m (values w) u) + 2 ^ m

@@ -52,10 +52,9 @@ pub fn search(h: usize, part: &mut [i32]) -> Peak
             mask: 0,
             alone: false,
             constant: 0,
-            whole: false,
         };
     }
     let j = (key % 65536) as usize;
     let z = part[j];
-    peaks::peak_at(j, h + j, g as usize == e, first_of(z), second_of(z))
+    peaks::peak_at(j, h + j, first_of(z), second_of(z))
 }

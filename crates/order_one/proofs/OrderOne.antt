@@ -10,8 +10,8 @@ use lib.ListN.{length, take}
 use borrow.Rule.Slice.PartMut.{putMid}
 use Rattle.words.specs.Sum.{tabulate}
 use Rattle.words.specs.Word.{bit}
-use Rattle.area.specs.Area.{at, Bits, SameFront, wordOf}
-use Rattle.area.specs.AreaLaws.{bit-back, bits-at, wordOf-word}
+use Rattle.area.specs.Area.{at, Bits, wordOf}
+use Rattle.area.specs.AreaLaws.{bit-back, front-of, wordOf-word}
 use Rattle.area.specs.Numbers.{stored}
 use Rattle.hadamard.specs.Correlation.{values, correlation}
 use Rattle.hadamard.specs.AffineWords.{bit-affine, word-affine}
@@ -21,10 +21,20 @@ use Rattle.peaks.specs.declared.Peak.{Peak}
 use Rattle.peaks.specs.Peaks.{IsPeak}
 use Rattle.refusals.specs.declared.Refusal.the-variants.{Tie}
 use Rattle.refusals.specs.declared.Decoded.the-variants.{Accepted, Refused}
+use Rattle.code.specs.Code.{codewordTest}
+use Rattle.code.specs.Codewords.{codeword-of-test}
 use Rattle.rule.specs.Reading.{order1}
+use Rattle.rule.specs.Nearest.{order1-codeword}
 use Rattle.told.specs.Told.{Read}
-use Rattle.order_one.specs.OrderOne.{PeakOf, nearest, order1-tie, order1-nearest, whole-nearest, constant-bit}
+use Rattle.order_one.specs.OrderOne.{PeakOf, nearest, order1-tie, order1-nearest, constant-bit}
 use Rattle.told.specs.WordPart.{lent-size}
+
+-- a word that is a codeword already
+pub codeword-read :
+    (m : ℕ) {xs : List ℤ} → 1 ≤ m → Bits (2 ^ m) xs → codewordTest m 1 (wordOf (2 ^ m) xs) ≡ true
+    → Read (2 ^ m) (order1 m (values (wordOf (2 ^ m) xs))) xs (Accepted 0 1)
+codeword-read m hm b e =
+    rw (order1-codeword hm (codeword-of-test m 1 _ (wordOf-word {m = m} b) e)) (record { said = refl; word = front-of b })
 
 -- p is the peak of the word in the front of xs
 pub record Peaked (m : ℕ) (xs : List ℤ) (p : Peak) : Type 0 where
@@ -48,12 +58,6 @@ module _ {m : ℕ} {xs : List ℤ} {p : Peak} (k : Peaked m xs p) where
     nearest-read each =
         let w = word-affine m (p .mask) _ in
         rw (order1-nearest peak-of e) (record { said = refl; word = record { size = w .size; each = each; bits = λ q l. w .bits q } })
-
-    -- a word that was kept, and is that codeword
-    pub whole-read : {ys : List ℤ} → p .whole ≡ true → SameFront (2 ^ m) xs ys → Read (2 ^ m) (order1 m (values word)) ys (Accepted 0 1)
-    whole-read w s =
-        let itself = whole-nearest peak-of e w in
-        nearest-read (λ q l. s .same q l ∙ bits-at (k .bits) q l ∙ ap (λ (v : List ℕ). pos (bit v q)) itself)
 
     codeword-at : (q : ℕ) → q < 2 ^ m → affineAt (p .mask) (stored (p .constant)) q ≡ pos (bit (nearest m word p) q)
     codeword-at q l =

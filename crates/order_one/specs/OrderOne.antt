@@ -3,15 +3,13 @@ use Prim.Native.Nat.{ℕ, _^_}
 use mathlib.Core.Path.{_≡_, refl, sym, subst, _∙_}
 use mathlib.Core.Bool.{true, false}
 use mathlib.Core.List.{List}
-use borrow.Author.Tests.{eqb-true}
 use Rattle.words.specs.Word.{IsWord}
 use Rattle.area.specs.Area.{IsBit}
 use Rattle.area.specs.AreaLaws.{is-bit}
 use Rattle.hadamard.specs.Correlation.{values, correlation, affine, constantOf}
-use Rattle.hadamard.specs.CorrelationLaws.{constantOf-lt, whole-affine}
+use Rattle.hadamard.specs.CorrelationLaws.{constantOf-lt}
 use Rattle.peaks.specs.declared.Peak.{Peak}
 use Rattle.peaks.specs.Peaks.{IsPeak}
-use Rattle.peaks.specs.Found.{peak-size}
 use Rattle.rule.specs.Reading.{accepted, refused, order1}
 
 -- p is the peak of the word w
@@ -32,11 +30,6 @@ module _ {m : ℕ} {w : List ℕ} {p : Peak} (k : PeakOf m w p) where
     pub order1-nearest : order1 m (values w) ≡ accepted (nearest m w p) 0 1
     unfolding order1
     order1-nearest = rw (sym (k .peak .alone) ∙ e, k .peak .mask e) refl
-
-    -- the word is that codeword
-    pub whole-nearest : p .whole ≡ true → w ≡ nearest m w p
-    whole-nearest f =
-        whole-affine (k .word) (p .mask) (sym (peak-size (k .peak) e) ∙ eqb-true _ _ (sym (k .peak .whole e) ∙ f))
 
     pub constant-bit : IsBit (p .constant)
     constant-bit = subst IsBit (sym (k .peak .constant e)) (is-bit _ (constantOf-lt (correlation m (values w) (p .mask))))

@@ -11,23 +11,23 @@ ghost use Rattle.hadamard.specs.Correlation.{values};
 ghost use Rattle.rule.specs.Reading.{order1};
 ghost use Rattle.told.specs.Told.{Read, Kept};
 
-// The reading at order 1 in a part of the area that holds the word and as much again, which is worked in. A word whose greatest absolute
-// correlation is n is a codeword already.
+// The reading at order 1 in a part of the area that holds the word and as much again, which is worked in. A word that is a codeword already
+// is its own nearest one, and needs no correlations.
 fn first_order_in(m: usize, part: &mut [i32]) -> Told
     requires { ⌜ (1 ≤ m) × (m ≤ 10) × (length (now part) ≡ 2 * 2 ^ m) × Bits (2 ^ m) (now part) ⌝ }
     ensures read { λ t. ⌜ Read (2 ^ m) (order1 m (values (wordOf (2 ^ m) (now (part .entry))))) (now (part .exit)) (t .answer) ⌝ }
     ensures kept { λ t. ⌜ Kept (2 ^ m) (now (part .entry)) (now (part .exit)) t ⌝ }
 {
-    let n = words::size(m);
-    let peak = nearest::find_peak(m, part);
-    if !peak.alone {
-        return changed(Decoded::Refused(Refusal::Tie, 0, 1));
-    }
-    if peak.whole {
+    if affine_test::is_affine(m, part) {
         return Told {
             answer: Decoded::Accepted(0, 1),
             kept: true,
         };
+    }
+    let n = words::size(m);
+    let peak = nearest::find_peak(m, part);
+    if !peak.alone {
+        return changed(Decoded::Refused(Refusal::Tie, 0, 1));
     }
     let mask = peak.mask;
     let constant = peak.constant;

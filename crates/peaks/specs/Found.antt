@@ -6,30 +6,27 @@ use mathlib.Core.List.{List}
 use mathlib.Core.Logic.{_⊎_, inl, inr, ⊎-elim}
 use native.Mathlib.Decide.{ℕ-discrete}
 use native.Mathlib.Omega.{arith}
-use lib.Dec.{eqb}
 use lib.IntN.{ℤ, pos, natAbs}
 use lib.ListN.{length}
 use borrow.Author.Tests.{eq-eqb, eqb-true, ne-eqb}
 use Rattle.words.specs.Sum.{greatestBelow}
 use Rattle.words.specs.SumLaws.{total-ext}
-use Rattle.area.specs.Area.{at}
+use Rattle.area.specs.Area.{at, sizeAt}
 use Rattle.hadamard.specs.Correlation.{constantOf}
 use Rattle.hadamard.specs.Peak.{Alone, Shared, alone-count, alone-first, alone-greatest, greatest-bound, one-alone, peak, shared-count}
 use Rattle.peaks.specs.declared.Peak.{Peak}
-use Rattle.peaks.specs.Peaks.{entrySizes, joined, keysBelow, IsPeak, PeakAt, Sizes}
+use Rattle.peaks.specs.Peaks.{joined, keysBelow, IsPeak, PeakAt, Sizes}
 use Rattle.peaks.specs.Keys.{keys-alone, keys-ext, keys-shared}
-use Rattle.peaks.specs.Pairs.{Layout, greater-sign, pair-alone, pair-even, joined-layout, pairs-greatest, pairs-share, sizes}
+use Rattle.peaks.specs.Pairs.{Layout, greater-sign, pair-alone, pair-even, joined-layout, pairs-share, sizes}
 
 -- ---- the peak of some values
 
 module _ (n : ℕ) (c : ℕ → ℤ) {p : Peak} where
-  pub one-peak : {u : ℕ} → Alone n (λ v. natAbs (c v)) u → p .alone ≡ true → p .mask ≡ u → p .constant ≡ pos (constantOf (c u))
-      → p .whole ≡ eqb (greatestBelow n (λ v. natAbs (c v))) n → IsPeak n c p
-  one-peak a ea em ec ew = record {
+  pub one-peak : {u : ℕ} → Alone n (λ v. natAbs (c v)) u → p .alone ≡ true → p .mask ≡ u → p .constant ≡ pos (constantOf (c u)) → IsPeak n c p
+  one-peak a ea em ec = record {
     alone = ea ∙ sym (eq-eqb _ 1 (alone-count a));
     mask = λ e. em ∙ sym (alone-first a);
     constant = λ e. ec ∙ ap (λ (v : ℕ). pos (constantOf (c v))) (sym em);
-    whole = λ e. ew;
   }
 
   pub no-peak : Shared n (λ v. natAbs (c v)) → p .alone ≡ false → IsPeak n c p
@@ -37,7 +34,6 @@ module _ (n : ℕ) (c : ℕ → ℤ) {p : Peak} where
     alone = ea ∙ sym (ne-eqb _ 1 (shared-count s));
     mask = λ e. absurd (false≢true (sym ea ∙ e));
     constant = λ e. absurd (false≢true (sym ea ∙ e));
-    whole = λ e. absurd (false≢true (sym ea ∙ e));
   }
 
 -- the peak's mask has the greatest absolute value
@@ -47,9 +43,6 @@ module _ {n : ℕ} {c : ℕ → ℤ} {p : Peak} (k : IsPeak n c p) (e : p .alone
 
   pub peak-below : p .mask < n
   peak-below = mask-alone .below
-
-  pub peak-size : greatestBelow n (λ u. natAbs (c u)) ≡ natAbs (c (p .mask))
-  peak-size = alone-greatest mask-alone
 
 -- ---- the greatest size of h pairs, and its key
 
@@ -77,7 +70,7 @@ module _ {h : ℕ} {x y : ℕ → ℤ} {g : ℤ} {key : ℕ} (t : Searched h x y
     searched-place = searched-one .below
 
     module _ {p : Peak}
-        (k : PeakAt (key % 65536) (h + key % 65536) (eqb (natAbs g) (h + h)) (x (key % 65536)) (y (key % 65536)) p) where
+        (k : PeakAt (key % 65536) (h + key % 65536) (x (key % 65536)) (y (key % 65536)) p) where
       abbrev j : ℕ
       j = key % 65536
 
@@ -95,7 +88,6 @@ module _ {h : ℕ} {x y : ℕ → ℤ} {g : ℤ} {key : ℕ} (t : Searched h x y
           | no ny ↦
               one-peak (h + h) (joined h x y) (pair-alone places j searched-one nx ny) (k .alone nx ny) (k .mask)
               (k .constant ∙ ap pos (sym (greater-sign places j searched-place)))
-              (k .whole ∙ ap (λ (v : ℕ). eqb v (h + h)) (ap natAbs (t .greatest) ∙ sym (pairs-greatest places (t .some))))
         ]
       ]
 
@@ -121,17 +113,17 @@ module _ {h : ℕ} {x y : ℕ → ℤ} {zs : List ℤ} (few : h ≤ 512) (s : He
       each i l = s .each i (below l)
 
   pub held-searched :
-      {g : ℤ} {key : ℕ} → 0 < h → g ≡ pos (greatestBelow (length zs) (entrySizes zs))
-      → key ≡ keysBelow (length zs) (entrySizes zs) (natAbs g) → Searched h x y g key
+      {g : ℤ} {key : ℕ} → 0 < h → g ≡ pos (greatestBelow (length zs) (sizeAt zs))
+      → key ≡ keysBelow (length zs) (sizeAt zs) (natAbs g) → Searched h x y g key
   held-searched some eg ek = record {
     some = some;
     few = few;
     greatest = eg ∙ ap pos best;
-    keys = ek ∙ ap₂ (λ (n b : ℕ). keysBelow n (entrySizes zs) b) (s .long) (ap natAbs eg ∙ best) ∙ keys-ext h _ _ _ same;
+    keys = ek ∙ ap₂ (λ (n b : ℕ). keysBelow n (sizeAt zs) b) (s .long) (ap natAbs eg ∙ best) ∙ keys-ext h _ _ _ same;
   }
     where
-      same : (i : ℕ) → i < h → entrySizes zs i ≡ sizes x y i
+      same : (i : ℕ) → i < h → sizeAt zs i ≡ sizes x y i
       same i l = ap natAbs (s .each i l)
 
-      best : greatestBelow (length zs) (entrySizes zs) ≡ greatestBelow h (sizes x y)
-      best = ap (λ (n : ℕ). greatestBelow n (entrySizes zs)) (s .long) ∙ total-ext max 0 h _ _ same
+      best : greatestBelow (length zs) (sizeAt zs) ≡ greatestBelow h (sizes x y)
+      best = ap (λ (n : ℕ). greatestBelow n (sizeAt zs)) (s .long) ∙ total-ext max 0 h _ _ same

@@ -1,17 +1,15 @@
 -- The greatest of the sums and differences of pairs, from the sizes of the pairs. Assumes nothing.
-use Prim.Native.Nat.{ℕ, zero, suc, _+_, _-_, _≤_, _<_}
+use Prim.Native.Nat.{ℕ, _+_, _-_, _≤_, _<_}
 use mathlib.Core.Path.{_≡_, sym, ap, _∙_, subst}
 use mathlib.Core.Bool.{Bool, true, false, cond}
 use mathlib.Core.Logic.{_≢_, _⊎_, inl, inr}
 use native.Mathlib.Decide.{ℕ-discrete, decLt}
-use native.Mathlib.Nat.{not-suc-le-zero}
 use native.Mathlib.Omega.{arith}
 use lib.Dec.{ltb}
 use lib.IntN.{ℤ, natAbs, _+ℤ_, _-ℤ_}
 use borrow.Author.Tests.{lt-ltb, le-ltb}
-use Rattle.words.specs.Sum.{greatestBelow}
 use Rattle.hadamard.specs.Correlation.{constantOf}
-use Rattle.hadamard.specs.Peak.{Alone, Shared, greatest-at, greatest-bound, greatest-met}
+use Rattle.hadamard.specs.Peak.{Alone, Shared}
 use Rattle.peaks.specs.Peaks.{alike, joined, pairSize}
 use Rattle.peaks.specs.OnePair.{greaterOf, greater-constant, greater-size, lesserOf, lesser-equal, lesser-less, lesser-most}
 
@@ -105,13 +103,6 @@ module _ {h n : ℕ} {x y c : ℕ → ℤ} (k : Layout h n x y c) where
       (λ i l. omega (arith, greater-is i l, most i l))
       (λ i l. omega (arith, lesser-le i l, most i l))
 
-  -- where the size of pair j is a bound
-  pub greatest-pair : (j : ℕ) → j < h → ((i : ℕ) → i < h → sizes x y i ≤ sizes x y j) → greatestBelow n valueSizes ≡ sizes x y j
-  greatest-pair j l most =
-      greatest-at valueSizes n (greaterPlace j) (greater-below j l)
-      (λ v m. omega (arith, greater-is j l, pairs-most (sizes x y j) most v m))
-      ∙ greater-is j l
-
   -- one pair has it, and no number of the pair is 0
   pub pair-alone : (j : ℕ) → Alone h (sizes x y) j → natAbs (x j) ≢ 0 → natAbs (y j) ≢ 0 → Alone n valueSizes (greaterPlace j)
   pair-alone j a nx ny = record {
@@ -172,14 +163,6 @@ module _ {h n : ℕ} {x y c : ℕ → ℤ} (k : Layout h n x y c) where
         equal = greater-is i m ∙ s .equal ∙ sym (greater-is j l);
         most = λ v b. omega (arith, greater-is i m, pairs-most (sizes x y i) (s .most) v b);
       }
-
-pub pairs-greatest :
-    {h n : ℕ} {x y c : ℕ → ℤ} → Layout h n x y c → 0 < h → greatestBelow n (λ u. natAbs (c u)) ≡ greatestBelow h (sizes x y)
-pairs-greatest {h = zero} k some = absurd (not-suc-le-zero some)
-pairs-greatest {h = suc n} {x = x} {y = y} k some =
-    let f : ℕ → ℕ = sizes x y in
-    let (j, l, e) = greatest-met f n in
-    greatest-pair k j l (λ i m. omega (arith, greatest-bound f (suc n) i m)) ∙ e
 
 -- ---- the sums, then the differences
 

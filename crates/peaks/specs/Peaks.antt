@@ -22,10 +22,6 @@ packedBy b x y = x +ℤ y *ℤ pos b
 abbrev pub pairSize : ℤ → ℤ → ℕ
 pairSize x y = natAbs x + natAbs y
 
--- the absolute values of a list's numbers
-abbrev pub entrySizes : List ℤ → ℕ → ℕ
-entrySizes xs i = natAbs (at xs i)
-
 -- a list of sizes
 pub record Sizes (xs : List ℤ) : Type 0 where
   pub few : length xs ≤ 512
@@ -47,17 +43,15 @@ pub record IsPeak (n : ℕ) (c : ℕ → ℤ) (p : Peak) : Type 0 where
   pub alone : p .alone ≡ eqb (countBelow n (λ u. natAbs (c u)) (greatestBelow n (λ u. natAbs (c u)))) 1
   pub mask : p .alone ≡ true → p .mask ≡ firstBelow n (λ u. natAbs (c u)) (greatestBelow n (λ u. natAbs (c u)))
   pub constant : p .alone ≡ true → p .constant ≡ pos (constantOf (c (p .mask)))
-  pub whole : p .alone ≡ true → p .whole ≡ eqb (greatestBelow n (λ u. natAbs (c u))) n
 
 -- both below 0, or neither
 abbrev pub alike : ℤ → ℤ → Bool
 alike x y = eqb (constantOf x) (constantOf y)
 
 -- the peak that the pair x, y gives, by the masks of its sum and its difference
-pub record PeakAt (sum difference : ℕ) (full : Bool) (x y : ℤ) (p : Peak) : Type 0 where
+pub record PeakAt (sum difference : ℕ) (x y : ℤ) (p : Peak) : Type 0 where
   pub alone : natAbs x ≢ 0 → natAbs y ≢ 0 → p .alone ≡ true
   pub first : natAbs x ≡ 0 → p .alone ≡ false
   pub second : natAbs y ≡ 0 → p .alone ≡ false
   pub mask : p .mask ≡ cond (alike x y) sum difference
   pub constant : p .constant ≡ pos (constantOf x)
-  pub whole : p .whole ≡ full

@@ -35,5 +35,4 @@ module _ {n : ℕ} {c d : ℕ → ℤ} {p : Peak} (k : IsPeak n c p) (h : (u : �
     alone = k .alone ∙ ap (λ (x : ℕ). eqb x 1) count-same;
     mask = λ e. k .mask e ∙ first-same;
     constant = λ e. k .constant e ∙ ap (λ (z : ℤ). pos (constantOf z)) (h (p .mask) (peak-below k e));
-    whole = λ e. k .whole e ∙ ap (λ (x : ℕ). eqb x n) most;
   }

@@ -77,7 +77,5 @@ module _ {g : ℤ} {n : ℕ} (e : g ≡ pos n) (l : mag g < 2 ^ 31) where
   pub size-casts : T (nonNeg (stored g)) × Fits w64 (natAbs (stored g))
   size-casts = rw size-read (tt, record { fits = omega (arith, ap mag e) })
 
-pub peak-as :
-    {a b : ℕ} (n : ℕ) (g : ℤ) {x x′ y y′ : ℤ} {p : Peak} → mag g < 2 ^ 31 → x ≡ x′ → y ≡ y′
-    → PeakAt a b (eqb (natAbs (stored g)) n) x y p → PeakAt a b (eqb (natAbs g) n) x′ y′ p
-peak-as n g l ex ey k = rw (← as-it-is {z = g} l, ← ex, ← ey) k
+pub peak-as : {a b : ℕ} {x x′ y y′ : ℤ} {p : Peak} → x ≡ x′ → y ≡ y′ → PeakAt a b x y p → PeakAt a b x′ y′ p
+peak-as ex ey k = rw (← ex, ← ey) k

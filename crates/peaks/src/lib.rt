@@ -5,15 +5,14 @@ ghost use Prim.Native.Nat.{_^_, _<_};
 ghost use lib.ListN.{length};
 ghost use lib.IntN.{pos, natAbs};
 ghost use Rattle.words.specs.Sum.{greatestBelow};
-ghost use Rattle.peaks.specs.Peaks.{entrySizes, keysBelow, Sizes, PeakAt};
+ghost use Rattle.area.specs.Area.{sizeAt};
+ghost use Rattle.peaks.specs.Peaks.{keysBelow, Sizes, PeakAt};
 
-// The mask of the greatest absolute correlation, where it is the only one: its correlation's sign as a codeword's constant, and whether
-// the word is that codeword.
+// The mask of the greatest absolute correlation, where it is the only one, and its correlation's sign as a codeword's constant.
 pub struct Peak {
     pub mask: usize,
     pub alone: bool,
     pub constant: i32,
-    pub whole: bool,
 }
 
 // The absolute value.
@@ -27,7 +26,7 @@ pub fn absolute(x: i32) -> i32
 // The greatest of some sizes.
 pub fn greatest(sizes: &[i32]) -> i32
     requires { ⌜ Sizes (now sizes) ⌝ }
-    ensures { λ g. ⌜ g ≡ pos (greatestBelow (length (now (sizes .entry))) (entrySizes (now (sizes .entry)))) ⌝ }
+    ensures { λ g. ⌜ g ≡ pos (greatestBelow (length (now (sizes .entry))) (sizeAt (now (sizes .entry)))) ⌝ }
 {
     let mut g: i32 = 0;
     let mut i = 0;
@@ -45,7 +44,7 @@ pub fn greatest(sizes: &[i32]) -> i32
 pub fn keys(sizes: &[i32], g: i32) -> u32
     requires { ⌜ Sizes (now sizes) ⌝ }
     requires { ⌜ g ≡ pos (natAbs g) ⌝ }
-    ensures { λ k. ⌜ k ≡ keysBelow (length (now (sizes .entry))) (entrySizes (now (sizes .entry))) (natAbs g) ⌝ }
+    ensures { λ k. ⌜ k ≡ keysBelow (length (now (sizes .entry))) (sizeAt (now (sizes .entry))) (natAbs g) ⌝ }
 {
     let mut sum: u32 = 0;
     let mut key: u32 = 65536;
@@ -62,8 +61,8 @@ pub fn keys(sizes: &[i32], g: i32) -> u32
 
 // The peak at the pair x, y: the mask of the sum where their signs are alike, and of the difference where they are not; where one of them
 // is 0 both have it.
-pub fn peak_at(sum: usize, difference: usize, whole: bool, x: i32, y: i32) -> Peak
-    ensures { λ p. ⌜ PeakAt sum difference whole x y p ⌝ }
+pub fn peak_at(sum: usize, difference: usize, x: i32, y: i32) -> Peak
+    ensures { λ p. ⌜ PeakAt sum difference x y p ⌝ }
 {
     let constant = if x < 0 { 1 } else { 0 };
     let other = if y < 0 { 1 } else { 0 };
@@ -73,6 +72,5 @@ pub fn peak_at(sum: usize, difference: usize, whole: bool, x: i32, y: i32) -> Pe
         mask,
         alone,
         constant,
-        whole,
     }
 }

@@ -22,11 +22,10 @@ pub fn search(q: usize, part: &mut [i32]) -> Peak
             mask: 0,
             alone: false,
             constant: 0,
-            whole: false,
         };
     }
     let j = (key % 65536) as usize;
     let low = j & (q - 1);
     let p = quads::pair_at(j, low, part[low]);
-    peaks::peak_at(j, h + j, g as usize == h + h, p.x, p.y)
+    peaks::peak_at(j, h + j, p.x, p.y)
 }

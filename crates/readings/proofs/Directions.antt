@@ -16,7 +16,7 @@ use Rattle.words.specs.SumLaws.{sum-most, sum-prefix}
 use Rattle.words.specs.Word.{bit, IsWord}
 use Rattle.words.specs.Written.{Written}
 use Rattle.area.specs.Area.{at, IsBit, Bits, Front, SameFront, wordOf}
-use Rattle.area.specs.AreaLaws.{bits-at, is-bit, front-bits, front-word}
+use Rattle.area.specs.AreaLaws.{bits-at, is-bit, front-bits, front-word, front-of, front-kept}
 use Rattle.refusals.specs.declared.Decoded.{Decoded}
 use Rattle.refusals.specs.declared.Decoded.the-variants.{Accepted, Refused}
 use Rattle.direction.specs.Cosets.{coset-lt}
@@ -37,7 +37,6 @@ use Rattle.steps.specs.declared.Count.the-variants.{Done, Exhausted}
 use Rattle.readings.specs.Readings.{countOf, Ready, Voted}
 use Rattle.readings.specs.Answers.{Late, by-answer, count-is, counted, limited-late, spent}
 use Rattle.readings.proofs.Flips.{vote-le}
-use Rattle.readings.proofs.Fronts.{front-of, front-kept}
 
 -- a round: exponent, order and round limit of its readings, the leaves left, the word of exponent m + 1, and the length of the area
 pub record Round : Type 0 where

@@ -15,13 +15,12 @@ use Rattle.words.specs.Word.{bit, indicator, addWords, IsWord}
 use Rattle.words.specs.WordLaws.{word-add, word-bit, word-of-bits}
 use Rattle.words.specs.Written.{Written}
 use Rattle.area.specs.Area.{at, Front, wordOf}
-use Rattle.area.specs.AreaLaws.{front-word}
+use Rattle.area.specs.AreaLaws.{front-word, front-kept}
 use Rattle.direction.specs.Direction.{project}
 use Rattle.cosets.specs.Votes.{Tally}
 use Rattle.rule.specs.Reading.{Outcome, accepted, refused, vote, votes, abstained, flipped, flips}
 use Rattle.rule.specs.Rounds.{flips-word, still}
 use Rattle.flips.specs.Flips.{flipOf}
-use Rattle.readings.proofs.Fronts.{front-kept}
 
 pub vote-le : (b : ℕ) (v : List ℕ) (o : Outcome) (p : ℕ) → vote b v o p ≤ 1
 vote-le b v (accepted d k l) p = omega arith

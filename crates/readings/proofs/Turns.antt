@@ -14,7 +14,7 @@ use Rattle.words.specs.Sum.{allBelow}
 use Rattle.words.specs.Word.{bit, addWords}
 use Rattle.words.specs.Written.{Written}
 use Rattle.area.specs.Area.{at, Bits, Front, SameFront, wordOf}
-use Rattle.area.specs.AreaLaws.{front-bits, front-word}
+use Rattle.area.specs.AreaLaws.{front-bits, front-word, front-of, front-kept}
 use Rattle.refusals.specs.declared.Refusal.the-variants.{Flipping, TooManyLeaves, Unsettled}
 use Rattle.refusals.specs.declared.Decoded.{Decoded}
 use Rattle.refusals.specs.declared.Decoded.the-variants.{Accepted, Refused}
@@ -35,7 +35,6 @@ use Rattle.steps.specs.declared.Count.the-variants.{Done, Exhausted}
 use Rattle.readings.specs.Readings.{Ready, Voted}
 use Rattle.readings.specs.Answers.{counted, spent}
 use Rattle.readings.proofs.Flips.{Polled, polled-tally, still-is, word-flipped, word-settled}
-use Rattle.readings.proofs.Fronts.{front-of, front-kept}
 
 -- ---- orders 0 and 1
 

@@ -1,5 +1,5 @@
 -- A reading at order 0 or 1 gives the codeword nearest to its word, and a tie exactly where two are equally near. Assumes nothing.
-use Prim.Native.Nat.{ℕ, zero, suc, _+_, _*_, _^_, _≤_, _<_}
+use Prim.Native.Nat.{ℕ, zero, suc, _+_, _-_, _*_, _^_, _≤_, _<_}
 use mathlib.Core.Path.{_≡_, refl, sym, ap, ap₂, _∙_, subst}
 use mathlib.Core.Logic.{_≢_, ⊎-elim}
 use mathlib.Core.List.{List, List-discrete}
@@ -12,6 +12,7 @@ use lib.IntN.{ℤ, pos, negsuc, natAbs}
 use lib.Pow.{pow-pos}
 use Rattle.words.specs.Word.{IsWord, distance, bit}
 use Rattle.code.specs.Code.{IsCodeword}
+use Rattle.code.specs.Distance.{code-distance, distance-self}
 use Rattle.hadamard.specs.Correlation.{affine, constantOf, correlation, values}
 use Rattle.hadamard.specs.AffineWords.{IsAffine, affine-codeword, affine-mask, affine-start, codeword-affine, codeword-constant, constant-affine, constant-codeword}
 use Rattle.hadamard.specs.CorrelationLaws.{constantOf-lt, far-distance, near-distance}
@@ -174,3 +175,14 @@ module _ {m r : ℕ} {w : List ℕ} where
   pub tied-refused : {o : Outcome} → Judged m r w o → Tied m r w → o ≡ refused 9 0 r
   tied-refused (nearest h) t = absurd (not-both h t)
   tied-refused (tied s) t = refl
+
+-- ---- a codeword is its own nearest
+
+itself : {m r : ℕ} {w : List ℕ} → r ≤ m → IsCodeword m r w → Nearest m r w w
+itself {m} {r} {w} h c = record {
+  codeword = c;
+  nearer = λ d hd ne. omega (arith, distance-self m w, code-distance h c hd (λ e. ne (sym e)), pow-pos (m - r));
+}
+
+pub order1-codeword : {m : ℕ} {w : List ℕ} → 1 ≤ m → IsCodeword m 1 w → order1 m (values w) ≡ accepted w 0 1
+order1-codeword h c = nearest-accepted (order1-judged h (c .word)) (itself h c)

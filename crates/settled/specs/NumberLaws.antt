@@ -10,7 +10,7 @@ use lib.Dec.{eqb, leb}
 use lib.IntN.{ℤ, pos, natAbs}
 use lib.Pow.{pow-mono}
 use lib.ListN.{length, take, drop, List·getD-eq-default}
-use Rattle.area.specs.Area.{at, Bits, zero-bit, wordOf}
+use Rattle.area.specs.Area.{at, sizeAt, Bits, zero-bit, wordOf}
 use Rattle.area.specs.AreaLaws.{bit-lt, bit-wordOf, wordOf-word}
 use Rattle.words.specs.Butterflies.{Entries, halved}
 use Rattle.words.specs.ButterflyLaws.{halved-entries}
@@ -23,10 +23,6 @@ use Rattle.code.specs.Degree.{coef}
 use Rattle.settled.specs.Numbers.{TestedIn}
 use Rattle.coefficients.specs.TransformLaws.{transform-coef}
 use Rattle.parities.specs.Parities.{numberParities}
-
--- the absolute value of the number at a place
-abbrev pub sizeAt : List ℤ → ℕ → ℕ
-sizeAt xs p = natAbs (at xs p)
 
 -- a holds the word that is in the front of xs
 module _ (m : ℕ) (xs a : List ℤ) (b : Bits (2 ^ m) xs) (size : length a ≡ 2 ^ m) (same : (p : ℕ) → p < 2 ^ m → at a p ≡ at xs p) where

@@ -4,10 +4,9 @@ ghost use Prim.Native.Nat.{_+_, _*_, _^_, _≤_};
 ghost use lib.ListN.{length};
 ghost use lib.IntN.{pos};
 ghost use Rattle.words.specs.Written.{Written};
-ghost use Rattle.area.specs.Area.{at, Bits};
+ghost use Rattle.area.specs.Area.{at, sizeAt, Bits};
 ghost use Rattle.code.specs.Code.{lowTest};
 ghost use Rattle.settled.specs.Numbers.{TestedIn};
-ghost use Rattle.settled.specs.NumberLaws.{sizeAt};
 use messages::degree;
 use parities::transform;
 

@@ -1,4 +1,5 @@
 -- `affine::repeat_four` meets its contract: all four bits are read before the first is written. Assumes nothing.
+use native.Mathlib.Omega.{arith}
 use lib.ListN.{length, length-set}
 use Rattle.area.specs.Places.{Places, places}
 use Rattle.affine.specs.Blocks.{four-repeated}
@@ -7,7 +8,7 @@ use Rattle.affine.proofs.repeat_four.Tie as tie
 
 -- the places read and the places written
 from : (c : tie.Start) → Places (c .args .i) 4 (length (c .args .a .now))
-from c = places (c .good .0 .1) tt (c .pre .source)
+from c = places (c .good .0 .1) tt (omega arith)
 
 into : (c : tie.Start) → Places (c .args .b) 4 (length (c .args .a .now))
 into c = places (c .good .0 .1) tt (c .pre .room)

@@ -1,48 +1,44 @@
--- `affine::write_affine` meets its contract: four places by parity, four more, and each turn of the loop writes one block of 8. Assumes nothing.
-use Prim.Native.Nat.{_+_, _-_, _%_, _^_, _≤_, _<_}
-use mathlib.Core.Path.{_≡_, refl, ap, _∙_}
+-- `affine::write_affine` meets its contract: four places by parity, four more, eight more, and each turn of the loop writes one block of 16.
+-- Assumes nothing.
+use Prim.Native.Nat.{_-_, _%_, _^_, _≤_, _<_}
+use mathlib.Core.Path.{_≡_, refl}
 use native.Mathlib.Omega.{arith}
 use borrow.Author.Needs.{needs}
-use lib.Bits.{bitAnd, and-le-l}
-use lib.Count.{ones}
+use borrow.Author.Tests.{eqb-false}
+use lib.Bits.{and-le-l}
 use lib.ListN.{length}
-use lib.IntN.{ℤ, pos}
 use mir.Syntax.{w32}
 use mir.Val.{toZ}
 use borrow.Rule.Slice.PartMut.{putMid}
-use Rattle.words.specs.Sum.{tabulate}
-use Rattle.words.specs.Parts.{front-length, back-length}
+use Rattle.words.specs.Parts.{front-length}
 use Rattle.area.specs.Area.{IsBit}
 use Rattle.area.specs.AreaLaws.{bit-back}
 use Rattle.area.specs.Numbers.{stored}
-use Rattle.affine.specs.Affine.{affineAt}
-use Rattle.affine.specs.Blocks.{parity-bit, Affine, affine-none, repeats, affine-more, affine-all, affine-front}
+use Rattle.affine.specs.Affine.{Repeats}
+use Rattle.affine.specs.Blocks.{first-half, second-half, both-halves, Affine, affine-front, affine-all, repeats, affine-more}
 use Rattle.affine.proofs.write_affine.Statement.{statement}
 use Rattle.affine.proofs.write_affine.Tie as tie
 
 abbrev Inv-loop : tie.InvT-loop
-Inv-loop a₀ u s n b₀ a b = (b % 8 ≡ 0) × (8 ≤ b) × (b ≤ n) × (length a ≡ n) × Affine u (toZ w32 s) b a
+Inv-loop a₀ u s n b₀ a b = (b % 16 ≡ 0) × (16 ≤ b) × (b ≤ n) × Affine u (toZ w32 s) n b a
 
 abbrev μ-loop : tie.MeasureT-loop
 μ-loop a₀ u s n b₀ a b = n - b
-
-returns : tie.Need-returns Inv-loop μ-loop
-returns c = let s = c .before .args in affine-all (affine-none (s .u) (s .s) (s .a .now)) _ refl (c .if1 .taken)
 
 -- what both calls ask
 asks : (c : tie.Start Inv-loop μ-loop) → IsBit (stored (c .args .s)) × (c .args .u < 2 ^ 32)
 asks c = (rw (bit-back (c .pre .0)) (c .pre .0), omega (arith, c .pre .1))
 
 by-place-requires : tie.Need-by-place-requires Inv-loop μ-loop
-by-place-requires c κs = asks (c .before .before .before)
+by-place-requires c κs = asks (c .before .before)
 
 same-length : tie.Need-same-length Inv-loop μ-loop
 same-length c = c .before .by-place .kept .0
 
-returns-2 : tie.Need-returns-2 Inv-loop μ-loop
-returns-2 c =
-    let s = c .before .before .before .before .before in
-    c .before .by-place .ensures ∙ ap (λ (z : ℤ). tabulate (length (s .args .a .now)) (affineAt (s .args .u) z)) (bit-back (s .pre .0))
+returns : tie.Need-returns Inv-loop μ-loop
+returns c = rw (bit-back (c .before .before .before .before .pre .0)) at (c .before .by-place .ensures)
+
+-- ---- the first block
 
 sub-by-place : tie.Need-sub-by-place Inv-loop μ-loop
 sub-by-place c = search needs
@@ -51,86 +47,67 @@ part-by-place-start : tie.Need-part-by-place-start Inv-loop μ-loop
 part-by-place-start c = search needs
 
 part-by-place-end : tie.Need-part-by-place-end Inv-loop μ-loop
-part-by-place-end c = omega arith
+part-by-place-end c = omega (arith, eqb-false)
 
 by-place-requires-2 : tie.Need-by-place-requires-2 Inv-loop μ-loop
 by-place-requires-2 c κs = asks (c .before .before .before)
 
--- ---- the first block
-
-first-room : (c : tie.Else2 Inv-loop μ-loop) → 8 ≤ length (c .before .before .args .a .now)
-first-room c = omega arith
-
-first-length : (c : tie.After-a2 Inv-loop μ-loop) → let a = c .before .before .before .before .before .args .a .now in
-    length (putMid 0 4 a (c .before .by-place2 .last .0)) ≡ length a
-first-length c =
+-- its first four places
+four : (c : tie.After-a2 Inv-loop μ-loop) → let s = c .before .before .before .before .before .args in
+    Affine (s .u) (stored (s .s)) (length (s .a .now)) 4 (putMid 0 4 (s .a .now) (c .before .by-place2 .last .0))
+four c =
     let a = c .before .before .before .before .before .args .a .now in
-    let room : 4 ≤ length a = omega (arith, first-room (c .before .before .before)) in
-    back-length (pos 0) 0 4 a room (c .before .by-place2 .last .0) (c .before .by-place2 .kept .0 ∙ front-length 4 a room)
-
--- the first four places
-first-four : (c : tie.After-a2 Inv-loop μ-loop) → let s = c .before .before .before .before .before .args in
-    Affine (s .u) (stored (s .s)) 4 (putMid 0 4 (s .a .now) (c .before .by-place2 .last .0))
-first-four c =
-    let a = c .before .before .before .before .before .args .a .now in
-    let room : 4 ≤ length a = omega (arith, first-room (c .before .before .before)) in
-    affine-front a room (rw (front-length 4 a room) at (c .before .by-place2 .ensures))
+    let l : 4 ≤ length a = omega (arith, eqb-false) in
+    affine-front a l (rw (front-length 4 a l) at (c .before .by-place2 .ensures))
 
 parity-requires : tie.Need-parity-requires Inv-loop μ-loop
 parity-requires c κs = omega (arith, and-le-l (c .before .before .before .before .before .before .args .u) 4)
 
-first-added : (c : tie.After-parity Inv-loop μ-loop) → let s = c .before .before .before .before .before .before .before .args in
-    stored (c .parity .result) ≡ pos (ones (bitAnd (s .u) 4) % 2)
-first-added c = bit-back (parity-bit _ (c .parity .ensures)) ∙ c .parity .ensures
-
 repeat-four-requires : tie.Need-repeat-four-requires Inv-loop μ-loop
-repeat-four-requires c κs =
-    let a = c .before .before in
-    repeats (first-four a) 0 (parity-bit _ (first-added c)) (omega arith) (omega (arith, first-length a, first-room (a .before .before .before)))
+repeat-four-requires c κs = repeats (four (c .before .before)) (c .parity .ensures) (omega arith) (omega (arith, eqb-false))
+
+-- its first eight
+eight : (c : tie.After-a3 Inv-loop μ-loop) → let s = c .before .before .before .before .before .before .before .before .before .args in
+    Affine (s .u) (stored (s .s)) (length (s .a .now)) 8 (c .before .repeat-four .last .0)
+eight c =
+    let t = c .before .before in
+    affine-more (four (t .before .before)) (t .parity .ensures) 2 refl (omega arith) (c .before .repeat-four .ensures)
+
+parity-requires-2 : tie.Need-parity-requires-2 Inv-loop μ-loop
+parity-requires-2 c κs = omega (arith, and-le-l (c .before .before .before .before .before .before .before .before .before .before .args .u) 8)
+
+repeat-eight-requires : tie.Need-repeat-eight-requires Inv-loop μ-loop
+repeat-eight-requires c κs = repeats (eight (c .before .before)) (c .parity2 .ensures) (omega arith) (omega (arith, eqb-false))
 
 loop-holds : tie.Need-loop-holds Inv-loop μ-loop
 loop-holds c =
-    let f = c .before .before .before .before in
-    let w = c .before .repeat-four .ensures in (
+    let t = c .before .before in (
       refl,
       omega arith,
-      first-room (f .before .before .before),
-      w .long ∙ first-length f,
-      affine-more (first-four f) 2 4 0 refl refl (omega arith) (omega arith) (first-added (c .before .before)) w 8 refl,
+      omega (arith, eqb-false),
+      affine-more (eight (t .before .before)) (t .parity2 .ensures) 3 refl (omega arith) (c .before .repeat-eight .ensures),
     )
 
 -- ---- the loop
 
 abbrev start : tie.At-loop Inv-loop μ-loop → tie.Start Inv-loop μ-loop
-start c = c .before .before .before .before .before .before .before .before .before .before
+start c = c .before .before .before .before .before .before .before .before .before .before .before .before .before .before
 
-parity-requires-2 : tie.Need-parity-requires-2 Inv-loop μ-loop
-parity-requires-2 c κs = omega (arith, and-le-l (start (c .before) .args .u) (c .before .loop .b))
+parity-requires-3 : tie.Need-parity-requires-3 Inv-loop μ-loop
+parity-requires-3 c κs = omega (arith, and-le-l (start (c .before) .args .u) (c .before .loop .b))
 
--- the block's parity, as the calls are given it
-added : (c : tie.After-parity2 Inv-loop μ-loop) → let l = c .before .before in
-    stored (c .parity2 .result) ≡ pos (ones (bitAnd (start l .args .u) (l .loop .b)) % 2)
-added c = bit-back (parity-bit _ (c .parity2 .ensures)) ∙ c .parity2 .ensures
+-- what the two calls ask of the block
+block : (c : tie.After-parity3 Inv-loop μ-loop) → let l = c .before .before .loop in Repeats 16 0 (l .b) (stored (c .parity3 .result)) (l .a)
+block c = repeats (c .before .before .loop .inv .3) (c .parity3 .ensures) (omega arith) (omega arith)
 
-repeat-four-requires-2 : tie.Need-repeat-four-requires-2 Inv-loop μ-loop
-repeat-four-requires-2 c κs =
-    repeats (c .before .before .before .loop .inv .4) 0 (parity-bit _ (added (c .before))) (omega arith) (omega arith)
+repeat-eight-requires-2 : tie.Need-repeat-eight-requires-2 Inv-loop μ-loop
+repeat-eight-requires-2 c κs = first-half 8 (block (c .before))
 
--- half of the block is written
-half : (c : tie.After-a4 Inv-loop μ-loop) → let l = c .before .before .before .before .before in
-    Affine (start l .args .u) (stored (start l .args .s)) (l .loop .b + 4) (c .before .repeat-four2 .last .0)
-half c =
-    let l = c .before .before .before .before .before .loop in
-    let t = added (c .before .before .before) in
-    let w = c .before .repeat-four2 .ensures in
-    affine-more (l .inv .4) 3 (l .b) 0 (l .inv .0) (omega arith) (omega arith) (omega arith) t w (l .b + 4) refl
+add-repeat-eight : tie.Need-add-repeat-eight Inv-loop μ-loop
+add-repeat-eight c = search needs
 
-add-repeat-four : tie.Need-add-repeat-four Inv-loop μ-loop
-add-repeat-four c = search needs
-
-repeat-four-requires-3 : tie.Need-repeat-four-requires-3 Inv-loop μ-loop
-repeat-four-requires-3 c κs =
-    repeats (half (c .before)) 4 (parity-bit _ (added (c .before .before .before .before))) (omega arith) (omega arith)
+repeat-eight-requires-3 : tie.Need-repeat-eight-requires-3 Inv-loop μ-loop
+repeat-eight-requires-3 c κs = second-half 8 (block (c .before .before .before .before)) (c .before .before .repeat-eight2 .ensures)
 
 add-b : tie.Need-add-b Inv-loop μ-loop
 add-b c = omega arith
@@ -140,25 +117,16 @@ loop-less c = omega arith
 
 loop-again : tie.Need-loop-again Inv-loop μ-loop
 loop-again c =
-    let l = c .before .before .before .before .before .before .before .before .loop in
-    let w = c .before .repeat-four3 .ensures in
-    let t = added (c .before .before .before .before .before .before) in (
-      omega arith,
-      omega arith,
-      omega arith,
-      w .long ∙ c .before .before .before .before .repeat-four2 .ensures .long ∙ l .inv .3,
-      affine-more (half (c .before .before .before)) 3 (l .b) 4 (l .inv .0) refl (omega arith) (omega arith) t w (l .b + 8) (omega arith),
-    )
+    let t = c .before .before .before .before .before .before in
+    let l = t .before .before .loop in
+    let w = both-halves 8 (block t) (c .before .before .before .before .repeat-eight2 .ensures) (c .before .repeat-eight3 .ensures) in
+    (omega arith, omega arith, omega (arith, block t .room), affine-more (l .inv .3) (t .parity3 .ensures) 4 (l .inv .0) (l .inv .1) w)
 
 same-length-2 : tie.Need-same-length-2 Inv-loop μ-loop
-same-length-2 c = omega arith
+same-length-2 c = c .before .loop .inv .3 .long
 
-returns-3 : tie.Need-returns-3 Inv-loop μ-loop
-returns-3 c =
-    let s = start (c .before) in
-    let n = length (s .args .a .now) in
-    affine-all (c .before .loop .inv .4) n (omega arith) (omega arith)
-    ∙ ap (λ (z : ℤ). tabulate n (affineAt (s .args .u) z)) (bit-back (s .pre .0))
+returns-2 : tie.Need-returns-2 Inv-loop μ-loop
+returns-2 c = rw (bit-back (start (c .before) .pre .0)) at (affine-all (c .before .loop .inv .3) (omega arith))
 
 pub write-affine-spec : {M : Type 1} → statement M
 write-affine-spec =
@@ -166,23 +134,24 @@ write-affine-spec =
     (tie.spec
     Inv-loop
     μ-loop
-    returns
     by-place-requires
     same-length
-    returns-2
+    returns
     sub-by-place
     part-by-place-start
     part-by-place-end
     by-place-requires-2
     parity-requires
     repeat-four-requires
-    loop-holds
     parity-requires-2
-    repeat-four-requires-2
-    add-repeat-four
-    repeat-four-requires-3
+    repeat-eight-requires
+    loop-holds
+    parity-requires-3
+    repeat-eight-requires-2
+    add-repeat-eight
+    repeat-eight-requires-3
     add-b
     loop-less
     loop-again
     same-length-2
-    returns-3)
+    returns-2)

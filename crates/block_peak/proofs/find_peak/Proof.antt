@@ -82,12 +82,6 @@ pair-at-requires c κs = rw (quad-read (c .before)) (quad-bounded (c .before) .r
 add-peak-at : tie.Need-add-peak-at
 add-peak-at c = search needs
 
-cast-peak-at : tie.Need-cast-peak-at
-cast-peak-at c = omega (arith, cast-top (c .before .before .before .before) .1)
-
-add-peak-at-2 : tie.Need-add-peak-at-2
-add-peak-at-2 c = search needs
-
 peak-at-requires : tie.Need-peak-at-requires
 peak-at-requires c κs = search needs
 
@@ -100,7 +94,7 @@ returns c =
     let a = p .before .before .before in
     let k = a .before .before in
     top-peak (k .before .pre) (top-at k) (first-is a) (last-is a) (p .peak-at .ensures)
-    refl (constant-is p) refl (c .before .is-alone .ensures)
+    refl (constant-is p) (c .before .is-alone .ensures)
 
 pub find-peak-spec : {M : Type 1} → statement M
 find-peak-spec =
@@ -113,8 +107,6 @@ find-peak-spec =
     shared-slice-copy-out-pair-at
     pair-at-requires
     add-peak-at
-    cast-peak-at
-    add-peak-at-2
     peak-at-requires
     is-alone-requires
     returns)

@@ -12,7 +12,7 @@ use Rattle.halves.specs.Halves.{firstOf, secondOf}
 use Rattle.halves.specs.PairNumbers.{sizes-held, sizes-small}
 use Rattle.peaks.specs.Peaks.{Sizes}
 use Rattle.peaks.specs.Found.{Held, held-sizes, held-searched, Searched, searched-many, searched-peak, searched-place}
-use Rattle.peaks.specs.Stored.{as-it-is, size-whole, size-casts, peak-as}
+use Rattle.peaks.specs.Stored.{as-it-is, size-whole, peak-as}
 use Rattle.halves.proofs.search.Statement.{statement}
 use Rattle.halves.proofs.search.Tie as tie
 
@@ -153,9 +153,6 @@ slice-copy-out-z c = pair-at c .below
 add-peak-at : tie.Need-add-peak-at
 add-peak-at c = let e = c .before in placed (sized (e .before)) .each _ (lt→ltb _ _ (below e)) .index
 
-cast-peak-at : tie.Need-cast-peak-at
-cast-peak-at c = let g = c .before .before .before .before .before in size-casts (g .greatest .ensures) (g .greatest .ok)
-
 first-of-requires : tie.Need-first-of-requires
 first-of-requires c κs = pair-small (c .before)
 
@@ -171,11 +168,7 @@ same-length-2 c = sized (c .before .before .before .before .before) .pair-sizes 
 returns-2 : tie.Need-returns-2
 returns-2 c =
     let e = c .before .before .before .before in
-    let k = e .before in
-    let g = k .before .before .before in
-    let n = g .before .before .before .before .before .before .args .h in
-    searched-peak (told k) (e .if1 .left)
-    (peak-as (n + n) (g .greatest .result) (g .greatest .ok) (first-is (c .before .before)) (second-is (c .before)) (c .peak-at .ensures))
+    searched-peak (told (e .before)) (e .if1 .left) (peak-as (first-is (c .before .before)) (second-is (c .before)) (c .peak-at .ensures))
 
 pub search-spec : {M : Type 1} → statement M
 search-spec =
@@ -199,7 +192,6 @@ search-spec =
     mul-z
     slice-copy-out-z
     add-peak-at
-    cast-peak-at
     first-of-requires
     second-of-requires
     peak-at-requires

@@ -8,15 +8,14 @@ use lib.IntN.{pos, natAbs}
 use mir.Syntax.{w32}
 use mir.Val.{ofZ}
 use Rattle.words.specs.Sum.{total, greatestBelow}
-use Rattle.area.specs.Area.{at}
+use Rattle.area.specs.Area.{at, sizeAt}
 use Rattle.hadamard.specs.Peak.{greatest-more}
-use Rattle.peaks.specs.Peaks.{entrySizes}
 use Rattle.peaks.proofs.Casts.{size-held, size-below, size-above}
 use Rattle.peaks.proofs.greatest.Statement.{statement}
 use Rattle.peaks.proofs.greatest.Tie as tie
 
 abbrev Inv-loop : tie.InvT-loop
-Inv-loop sizes g₀ i₀ g i = (i ≤ length sizes) × (g ≤ 1024) × (g ≡ greatestBelow i (entrySizes sizes))
+Inv-loop sizes g₀ i₀ g i = (i ≤ length sizes) × (g ≤ 1024) × (g ≡ greatestBelow i (sizeAt sizes))
 
 abbrev μ-loop : tie.MeasureT-loop
 μ-loop sizes g₀ i₀ g i = length sizes - i
@@ -42,7 +41,7 @@ loop-again c =
     let s = c .before .before .before .before in
     let l = c .before .before .before .loop in
     let z = at (s .args .sizes .now) (l .i) in
-    let more = greatest-more (entrySizes (s .args .sizes .now)) (l .i) in
+    let more = greatest-more (sizeAt (s .args .sizes .now)) (l .i) in
     let small = s .pre .small (l .i) (omega arith) in
     let whole = s .pre .whole (l .i) (omega arith) in
     ⊎-elim
@@ -60,7 +59,7 @@ returns c =
     let s = c .before .before in
     let l = c .before .loop in
     let e : l .i ≡ length (s .args .sizes .now) = omega arith in
-    size-held (l .g) (omega arith) ∙ ap pos (l .inv .2 ∙ ap (λ (n : ℕ). greatestBelow n (entrySizes (s .args .sizes .now))) e)
+    size-held (l .g) (omega arith) ∙ ap pos (l .inv .2 ∙ ap (λ (n : ℕ). greatestBelow n (sizeAt (s .args .sizes .now))) e)
 
 pub greatest-spec : {M : Type 1} → statement M
 greatest-spec =

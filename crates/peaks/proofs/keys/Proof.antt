@@ -6,14 +6,14 @@ use native.Mathlib.Omega.{arith}
 use lib.ListN.{length}
 use mir.Syntax.{w32}
 use mir.Val.{ofZ}
-use Rattle.area.specs.Area.{at}
-use Rattle.peaks.specs.Peaks.{entrySizes, keysBelow}
+use Rattle.area.specs.Area.{at, sizeAt}
+use Rattle.peaks.specs.Peaks.{keysBelow}
 use Rattle.peaks.specs.Keys.{keys-none, keys-hit, keys-miss, keys-most}
 use Rattle.peaks.proofs.keys.Statement.{statement}
 use Rattle.peaks.proofs.keys.Tie as tie
 
 abbrev Inv-loop : tie.InvT-loop
-Inv-loop sizes g sum₀ key₀ i₀ sum key i = (i ≤ length sizes) × (key ≡ 65536 + i) × (sum ≡ keysBelow i (entrySizes sizes) g)
+Inv-loop sizes g sum₀ key₀ i₀ sum key i = (i ≤ length sizes) × (key ≡ 65536 + i) × (sum ≡ keysBelow i (sizeAt sizes) g)
 
 abbrev μ-loop : tie.MeasureT-loop
 μ-loop sizes g sum₀ key₀ i₀ sum key i = length sizes - i
@@ -32,7 +32,7 @@ add-sum c =
     let s = c .before .before .before .before in
     let l = c .before .before .before .loop in
     let few : l .i ≤ 512 = omega (arith, s .pre .0 .few) in
-    omega (arith, keys-most (entrySizes (s .args .sizes .now)) (ofZ w32 (s .args .g)) (l .i) few)
+    omega (arith, keys-most (sizeAt (s .args .sizes .now)) (ofZ w32 (s .args .g)) (l .i) few)
 
 add-key : tie.Need-add-key Inv-loop μ-loop
 add-key c = let few = c .before .before .before .before .pre .0 .few in omega arith
@@ -47,7 +47,7 @@ loop-again : tie.Need-loop-again Inv-loop μ-loop
 loop-again c =
     let s = c .before .before .before .before in
     let l = c .before .before .before .loop in
-    let f = entrySizes (s .args .sizes .now) in
+    let f = sizeAt (s .args .sizes .now) in
     let g = ofZ w32 (s .args .g) in
     let x : ofZ w32 (at (s .args .sizes .now) (l .i)) ≡ f (l .i) = ap (ofZ w32) (s .pre .0 .whole (l .i) (omega arith)) in (
       omega arith,
@@ -62,7 +62,7 @@ returns : tie.Need-returns Inv-loop μ-loop
 returns c =
     let s = c .before .before in
     let l = c .before .loop in
-    let f = entrySizes (s .args .sizes .now) in
+    let f = sizeAt (s .args .sizes .now) in
     let e : l .i ≡ length (s .args .sizes .now) = omega arith in
     l .inv .2 ∙ ap (λ (n : ℕ). keysBelow n f (ofZ w32 (s .args .g))) e ∙ ap (keysBelow _ f) (ap (ofZ w32) (s .pre .1))
 

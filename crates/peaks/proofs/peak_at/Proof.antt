@@ -61,7 +61,6 @@ returns c = let s = c .before .before .before .before in record {
   second = λ e. refl;
   mask = mask-is (c .before);
   constant = constant-read (c .before .before .before);
-  whole = refl;
 }
 
 returns-2 : tie.Need-returns-2
@@ -71,7 +70,6 @@ returns-2 c = let s = c .before .before .before .before in record {
   second = λ e. ap not (zero-read (s .fits .y) ∙ eq-eqb _ 0 e);
   mask = mask-is (c .before);
   constant = constant-read (c .before .before .before);
-  whole = refl;
 }
 
 pub peak-at-spec : {M : Type 1} → statement M

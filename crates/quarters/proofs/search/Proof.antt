@@ -3,7 +3,7 @@ use Prim.Native.Nat.{ℕ, _+_, _-_, _*_, _%_, _≤_, _<_}
 use mathlib.Core.Path.{_≡_, refl, _∙_}
 use mathlib.Core.List.{List}
 use native.Mathlib.Omega.{arith}
-use native.Mathlib.Nat.{le-refl, le-of-lt}
+use native.Mathlib.Nat.{le-of-lt}
 use lib.IntN.{ℤ}
 use lib.ListN.{length, take, drop}
 use mir.Syntax.{w64}
@@ -14,7 +14,7 @@ use Rattle.area.specs.Numbers.{stored}
 use Rattle.area.specs.Places.{Place, Places, places, place as place-of}
 use Rattle.peaks.specs.Found.{Held, held-sizes, held-searched, Searched, searched-many, searched-peak, searched-place}
 use Rattle.peaks.specs.Peaks.{Sizes}
-use Rattle.peaks.specs.Stored.{number-read, as-it-is, size-whole, size-casts, peak-as}
+use Rattle.peaks.specs.Stored.{number-read, as-it-is, size-whole, peak-as}
 use Rattle.quarter_sizes.specs.Sized.{Quads}
 use Rattle.quarter_sizes.specs.SizedLaws.{sized-quads}
 use Rattle.quarter_sizes.proofs.QuadReads.{quad-read, quad-raisable}
@@ -192,12 +192,6 @@ add-peak-at c =
     let e = c .before .before in
     pairs-fit (sized (e .before) .before .before .pre .few) (le-of-lt (place-below e))
 
-cast-peak-at : tie.Need-cast-peak-at
-cast-peak-at c = let g = c .before .before .before .before .before .before in size-casts (g .greatest .ensures) (g .greatest .ok)
-
-add-peak-at-2 : tie.Need-add-peak-at-2
-add-peak-at-2 c = pairs-fit (sized (c .before .before .before) .before .before .pre .few) (le-refl _)
-
 peak-at-requires : tie.Need-peak-at-requires
 peak-at-requires c κs = tt
 
@@ -208,10 +202,7 @@ returns-2 : tie.Need-returns-2
 returns-2 c =
     let p = c .before .before .before in
     let e = p .before .before in
-    let g = e .before .before .before .before in
-    let q = number (sized (e .before)) in
-    searched-peak (told (e .before)) (e .if1 .left)
-    (peak-as (q + q + (q + q)) (g .greatest .result) (g .greatest .ok) (first-is p) (last-is p) (c .peak-at .ensures))
+    searched-peak (told (e .before)) (e .if1 .left) (peak-as (first-is p) (last-is p) (c .peak-at .ensures))
 
 pub search-spec : {M : Type 1} → statement M
 search-spec =
@@ -238,8 +229,6 @@ search-spec =
     slice-copy-out-pair-at
     pair-at-requires
     add-peak-at
-    cast-peak-at
-    add-peak-at-2
     peak-at-requires
     same-length-2
     returns-2)

@@ -6,7 +6,7 @@ use native.Mathlib.Omega.{arith}
 use lib.ListN.{length}
 use Rattle.area.specs.AreaLaws.{bit-stored}
 use Rattle.code.specs.Code.{lowTest}
-use Rattle.settled.specs.NumberLaws.{sizeAt}
+use Rattle.area.specs.Area.{sizeAt}
 use Rattle.messages.specs.LowTest.{test-none, test-more}
 use Rattle.settled.proofs.is_low.Statement.{statement}
 use Rattle.settled.proofs.is_low.Tie as tie
