@@ -19,6 +19,9 @@ pub fn nearest(word: &mut [u8]) -> bool {
 /// Two passes over the correlations: the greatest size, then how often it occurs and the sum of its masks.
 fn nearest_of<const N: usize>(word: &mut [u8]) -> bool {
     let word: &mut [u8; N] = word.try_into().expect("a word of N places");
+    if is_affine(word) {
+        return true;
+    }
     let mut values = word.map(|bit| 1 - 2 * bit as i16);
     hadamard(&mut values);
     let greatest = values.iter().fold(0, |greatest, v| v.abs().max(greatest));
@@ -62,4 +65,19 @@ fn codeword<const N: usize>(mask: usize, turned: u8, word: &mut [u8; N]) {
         }
         half *= 2;
     }
+}
+
+/// Whether the word is a codeword of order 1: each half repeats the lower one, or turns it.
+#[inline(always)]
+fn is_affine<const N: usize>(word: &[u8; N]) -> bool {
+    let mut half = 1;
+    while half < N {
+        let turn = word[0] ^ word[half];
+        let (low, high) = word[..2 * half].split_at(half);
+        if high.iter().zip(low).fold(0, |all, (h, l)| all | h ^ l ^ turn) != 0 {
+            return false;
+        }
+        half *= 2;
+    }
+    true
 }
