@@ -1,5 +1,5 @@
 -- What the working area holds: 32-bit signed numbers, of which some are the bits of a word. Assumes nothing.
-use Prim.Native.Nat.{ℕ, _+_, _≤_, _<_}
+use Prim.Native.Nat.{ℕ, zero, suc, _+_, _≤_, _<_}
 use mathlib.Core.Path.{_≡_}
 use mathlib.Core.List.{List, map}
 use lib.ListN.{length, getD, take}
@@ -36,3 +36,10 @@ pub record Front (n : ℕ) (w : List ℕ) (xs : List ℤ) : Type 0 where
 pub record SameFront (n : ℕ) (xs ys : List ℤ) : Type 0 where
   pub long : length ys ≡ length xs
   pub same : (p : ℕ) → p < n → at ys p ≡ at xs p
+
+-- four numbers by their places
+abbrev pub fourOf : ℤ → ℤ → ℤ → ℤ → ℕ → ℤ
+fourOf w x y z zero = w
+fourOf w x y z (suc zero) = x
+fourOf w x y z (suc (suc zero)) = y
+fourOf w x y z (suc (suc (suc p))) = z

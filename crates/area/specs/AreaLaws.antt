@@ -1,4 +1,4 @@
--- Laws of the area: bits, and the word in its front. Assumes nothing.
+-- Laws of the area: bits, the word in its front, and four numbers in a row. Assumes nothing.
 use Prim.Native.Nat.{ℕ, zero, suc, _+_, _%_, _^_, _≤_, _<_}
 use native.Mathlib.Omega.{arith}
 use mathlib.Core.Path.{_≡_, refl, sym, ap, subst, _∙_}
@@ -11,7 +11,8 @@ use mir.Syntax.{w32}
 use mir.Val.{toZ, ofZ}
 use Rattle.words.specs.Word.{IsWord, bit}
 use Rattle.words.specs.WordLaws.{word-of-bits}
-use Rattle.area.specs.Area.{at, IsBit, zero-bit, one-bit, Bits, Front, wordOf}
+use Rattle.words.specs.Written.{Written, written-as}
+use Rattle.area.specs.Area.{at, IsBit, zero-bit, one-bit, Bits, Front, wordOf, fourOf}
 
 -- ---- bits
 
@@ -100,3 +101,18 @@ front-of {n} {xs} b = record {
 -- the word stays
 pub front-kept : {n : ℕ} {w : List ℕ} {xs ys : List ℤ} → Front n w xs → ((p : ℕ) → p < n → at ys p ≡ at xs p) → Front n w ys
 front-kept f h = record { size = f .size; each = λ p l. h p l ∙ f .each p l; bits = f .bits }
+
+-- ---- four numbers in a row
+
+pub by-four : (P : ℕ → Type 0) → P 0 → P 1 → P 2 → P 3 → (i : ℕ) → i < 4 → P i
+by-four P a b c d zero l = a
+by-four P a b c d (suc zero) l = b
+by-four P a b c d (suc (suc zero)) l = c
+by-four P a b c d (suc (suc (suc zero))) l = d
+by-four P a b c d (suc (suc (suc (suc i)))) l = absurd (omega arith)
+
+-- written from b on, they are what f gives
+pub four-as :
+    {b : ℕ} {w x y z : ℤ} {f : ℕ → ℤ} {xs ys : List ℤ} → Written (pos 0) b 4 (fourOf w x y z) xs ys
+    → w ≡ f 0 → x ≡ f 1 → y ≡ f 2 → z ≡ f 3 → Written (pos 0) b 4 f xs ys
+four-as {w = w} {x = x} {y = y} {z = z} {f = f} k ew ex ey ez = written-as k f (by-four (λ (p : ℕ). fourOf w x y z p ≡ f p) ew ex ey ez)

@@ -12,17 +12,18 @@ use mir.Syntax.{w32, w64}
 use mir.Val.{Fits, SFits}
 use Rattle.words.specs.Written.{Written}
 use Rattle.words.specs.Xor.{xor-twice}
-use Rattle.area.specs.Area.{at}
+use Rattle.area.specs.Area.{at, fourOf}
+use Rattle.area.specs.AreaLaws.{by-four}
 use Rattle.area.specs.Numbers.{stored, sum-fits, sum-stored}
-use Rattle.four_votes.specs.FourVotes.{addend, Addends}
-use Rattle.projections.specs.FourLaws.{by-four, four-lt, four-apart}
+use Rattle.four_votes.specs.FourVotes.{Addends}
+use Rattle.projections.specs.FourLaws.{four-lt, four-apart}
 
 module _ {l : ℕ} {a b c d : ℤ} {xs : List ℤ} (t : Addends l a b c d xs) where
   abbrev old : ℕ → ℤ
   old i = at xs (bitXor i l)
 
   abbrev new : ℕ → ℤ
-  new i = stored (stored (old i) +ℤ stored (addend a b c d i))
+  new i = stored (stored (old i) +ℤ stored (fourOf a b c d i))
 
   pub index-lt : (i : ℕ) → i < 4 → bitXor i l < length xs
   index-lt i hi = omega (arith, four-lt hi (t .low))
@@ -30,10 +31,10 @@ module _ {l : ℕ} {a b c d : ℤ} {xs : List ℤ} (t : Addends l a b c d xs) wh
   pub index-fits : (i : ℕ) → i < 4 → Fits w64 (bitXor i l * 4)
   index-fits i hi = record { fits = omega (arith, four-lt hi (t .low)) }
 
-  pub new-fits : (i : ℕ) → i < 4 → SFits w32 (stored (old i) +ℤ stored (addend a b c d i))
+  pub new-fits : (i : ℕ) → i < 4 → SFits w32 (stored (old i) +ℤ stored (fourOf a b c d i))
   new-fits i hi = sum-fits (t .few (bitXor i l) (four-lt hi (t .low))) (t .each i hi)
 
-  new-is : (i : ℕ) → i < 4 → new i ≡ old i +ℤ addend a b c d i
+  new-is : (i : ℕ) → i < 4 → new i ≡ old i +ℤ fourOf a b c d i
   new-is i hi = sum-stored (t .few (bitXor i l) (four-lt hi (t .low))) (t .each i hi)
 
   abbrev put : ℕ → List ℤ → List ℤ
@@ -69,13 +70,13 @@ module _ {l : ℕ} {a b c d : ℤ} {xs : List ℤ} (t : Addends l a b c d xs) wh
       (stays (put 2 (put 1 (put 0 xs))) 2 3 (λ e. omega arith) ∙ set-at (put 1 (put 0 xs)) 2 (simp length-set) (omega arith))
       (set-at (put 2 (put 1 (put 0 xs))) 3 (simp length-set) (omega arith))
 
-  pub four-added : Written (pos 0) 0 4 (λ j. at xs j +ℤ addend a b c d (bitXor j l)) xs added
+  pub four-added : Written (pos 0) 0 4 (λ j. at xs j +ℤ fourOf a b c d (bitXor j l)) xs added
   four-added = record {
     long = simp length-set;
     within = λ j hj.
         let e : bitXor (bitXor j l) l ≡ j = xor-twice j l in
         ap (at added) {x = 0 + j} {y = bitXor (bitXor j l) l} (omega arith) ∙ added-at (bitXor j l) (four-lt hj (t .low))
-        ∙ new-is (bitXor j l) (four-lt hj (t .low)) ∙ ap (λ (x : ℕ). at xs x +ℤ addend a b c d (bitXor j l)) e;
+        ∙ new-is (bitXor j l) (four-lt hj (t .low)) ∙ ap (λ (x : ℕ). at xs x +ℤ fourOf a b c d (bitXor j l)) e;
     below = λ p lp. absurd (omega arith);
     above = λ p lp. beyond (put 2 (put 1 (put 0 xs))) 3 p (omega arith) (omega arith) ∙ beyond (put 1 (put 0 xs)) 2 p (omega arith) (omega arith)
         ∙ beyond (put 0 xs) 1 p (omega arith) (omega arith) ∙ beyond xs 0 p (omega arith) (omega arith);

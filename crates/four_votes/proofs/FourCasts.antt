@@ -14,13 +14,13 @@ use mir.Val.{Fits}
 use borrow.Rule.Slice.PartMut.{putMid}
 use Rattle.words.specs.Written.{Written, written-none, written-to}
 use Rattle.words.specs.Parts.{written-part}
-use Rattle.area.specs.Area.{at, IsBit}
-use Rattle.area.specs.AreaLaws.{bit-back}
+use Rattle.area.specs.Area.{at, IsBit, fourOf}
+use Rattle.area.specs.AreaLaws.{bit-back, by-four}
 use Rattle.area.specs.Numbers.{stored, Half}
 use Rattle.area.specs.Places.{Places, index-fits, places}
 use Rattle.projections.specs.Fours.{bitSum, pairSum}
-use Rattle.four_votes.specs.FourVotes.{addend, Addends, FourVotes, fourVote, FourVoted}
-use Rattle.projections.specs.FourLaws.{by-four, four-lt}
+use Rattle.four_votes.specs.FourVotes.{Addends, FourVotes, fourVote, FourVoted}
+use Rattle.projections.specs.FourLaws.{four-lt}
 use Rattle.projections.proofs.FourParts.{four, four-length, four-at, four-sum, sum-bit}
 
 -- a block of 4 entries to which the numbers v were added, in the order j XOR l, has come back
@@ -62,7 +62,7 @@ Vote n q p z l xs i x = x ≡ bitSum (at (four (4 * n + q) xs) i) (bitSum (at (f
 -- the four votes
 pub record Casts (n q p z l : ℕ) (xs : List ℤ) (a b c d : ℤ) : Type 0 where
   pub asks : FourVotes n q p z l xs
-  pub votes : (i : ℕ) → i < 4 → addend a b c d i ≡ fourVote n q p z l xs i
+  pub votes : (i : ℕ) → i < 4 → fourOf a b c d i ≡ fourVote n q p z l xs i
 
 module _ {n q p z l : ℕ} {xs : List ℤ} (asks : FourVotes n q p z l xs) where
   pub vote-rooms : length xs * 4 < 2 ^ 63 → Rooms n q p z (length xs)
@@ -91,12 +91,12 @@ module _ {n q p z l : ℕ} {xs : List ℤ} (asks : FourVotes n q p z l xs) where
       → Casts n q p z l xs (stored a) (stored b) (stored c) (stored d)
   casts {a} {b} {c} {d} ea eb ec ed = record {
     asks = asks;
-    votes = by-four (λ (i : ℕ). addend (stored a) (stored b) (stored c) (stored d) i ≡ fourVote n q p z l xs i)
+    votes = by-four (λ (i : ℕ). fourOf (stored a) (stored b) (stored c) (stored d) i ≡ fourVote n q p z l xs i)
         (vote-is 0 (omega arith) ea) (vote-is 1 (omega arith) eb) (vote-is 2 (omega arith) ec) (vote-is 3 (omega arith) ed);
   }
 
 module _ {n q p z l : ℕ} {xs : List ℤ} {a b c d : ℤ} (t : Casts n q p z l xs a b c d) where
-  vote-half : (i : ℕ) → i < 4 → Half (addend a b c d i)
+  vote-half : (i : ℕ) → i < 4 → Half (fourOf a b c d i)
   vote-half i hi = rw (t .votes i hi) (record { half = omega arith })
 
   pub first-adds : Addends 0 a b c d (four (2 * n + p) xs)
@@ -107,12 +107,12 @@ module _ {n q p z l : ℕ} {xs : List ℤ} {a b c d : ℤ} (t : Casts n q p z l 
     each = vote-half;
   }
 
-  module _ {part : List ℤ} (one : Written (pos 0) 0 4 (λ j. at (four (2 * n + p) xs) j +ℤ addend a b c d (bitXor j 0)) (four (2 * n + p) xs) part) where
+  module _ {part : List ℤ} (one : Written (pos 0) 0 4 (λ j. at (four (2 * n + p) xs) j +ℤ fourOf a b c d (bitXor j 0)) (four (2 * n + p) xs) part) where
     abbrev between : List ℤ
     between = putMid (2 * n + p) (2 * n + p + 4 - (2 * n + p)) xs part
 
-    first : Written (pos 0) (2 * n + p) 4 (λ j. at xs (2 * n + p + j) +ℤ addend a b c d (bitXor j 0)) xs between
-    first = part-added (2 * n + p) 0 xs part (addend a b c d) (t .asks .room-one) one
+    first : Written (pos 0) (2 * n + p) 4 (λ j. at xs (2 * n + p + j) +ℤ fourOf a b c d (bitXor j 0)) xs between
+    first = part-added (2 * n + p) 0 xs part (fourOf a b c d) (t .asks .room-one) one
 
     pub room-two : 2 * n + z + 4 ≤ length between
     room-two = omega (arith, first .long, t .asks .room-two)
@@ -129,12 +129,12 @@ module _ {n q p z l : ℕ} {xs : List ℤ} {a b c d : ℤ} (t : Casts n q p z l 
       each = vote-half;
     }
 
-    module _ {part′ : List ℤ} (two : Written (pos 0) 0 4 (λ j. at (four (2 * n + z) between) j +ℤ addend a b c d (bitXor j l)) (four (2 * n + z) between) part′) where
+    module _ {part′ : List ℤ} (two : Written (pos 0) 0 4 (λ j. at (four (2 * n + z) between) j +ℤ fourOf a b c d (bitXor j l)) (four (2 * n + z) between) part′) where
       abbrev after : List ℤ
       after = putMid (2 * n + z) (2 * n + z + 4 - (2 * n + z)) between part′
 
-      second : Written (pos 0) (2 * n + z) 4 (λ j. at between (2 * n + z + j) +ℤ addend a b c d (bitXor j l)) between after
-      second = part-added (2 * n + z) l between part′ (addend a b c d) room-two two
+      second : Written (pos 0) (2 * n + z) 4 (λ j. at between (2 * n + z + j) +ℤ fourOf a b c d (bitXor j l)) between after
+      second = part-added (2 * n + z) l between part′ (fourOf a b c d) room-two two
 
       pub four-voted : FourVoted n q p z l xs after
       four-voted = record {
@@ -142,7 +142,7 @@ module _ {n q p z l : ℕ} {xs : List ℤ} {a b c d : ℤ} (t : Casts n q p z l 
         one = λ i hi.
             outside second (2 * n + p + i)
             (λ j hj e. ⊎-elim (λ (k : p + 4 ≤ z). omega arith) (λ (k : z + 4 ≤ p). omega arith) (t .asks .apart))
-            ∙ first .within i hi ∙ ap (λ (x : ℤ). at xs (2 * n + p + i) +ℤ x) (ap (addend a b c d) (xor-zero-r i) ∙ t .votes i hi);
+            ∙ first .within i hi ∙ ap (λ (x : ℤ). at xs (2 * n + p + i) +ℤ x) (ap (fourOf a b c d) (xor-zero-r i) ∙ t .votes i hi);
         two = λ i hi. second .within i hi ∙ ap₂ _+ℤ_ (kept i hi) (t .votes (bitXor i l) (four-lt hi (t .asks .bits .low)));
         others = λ j k. outside second j (λ i hi. k i hi .1) ∙ outside first j (λ i hi. k i hi .0);
       }

@@ -1,28 +1,21 @@
 -- Votes by blocks of 4 cosets: what the functions on them ask and promise. Assumes nothing.
-use Prim.Native.Nat.{ℕ, zero, suc, _+_, _*_, _≤_, _<_}
+use Prim.Native.Nat.{ℕ, _+_, _*_, _≤_, _<_}
 use mathlib.Core.Path.{_≡_}
 use mathlib.Core.Logic.{_≢_, _⊎_}
 use mathlib.Core.List.{List}
 use lib.Bits.{bitXor}
 use lib.IntN.{ℤ, _+ℤ_}
 use lib.ListN.{length}
-use Rattle.area.specs.Area.{at, IsBit}
+use Rattle.area.specs.Area.{at, IsBit, fourOf}
 use Rattle.area.specs.Numbers.{Half}
 use Rattle.projections.specs.Fours.{bitSum, TwoBlocks, pairSum}
-
--- four numbers by their index
-abbrev pub addend : ℤ → ℤ → ℤ → ℤ → ℕ → ℤ
-addend a b c d zero = a
-addend a b c d (suc zero) = b
-addend a b c d (suc (suc zero)) = c
-addend a b c d (suc (suc (suc i))) = d
 
 -- four numbers that can be added to the entries of xs, in the order i XOR l
 pub record Addends (l : ℕ) (a b c d : ℤ) (xs : List ℤ) : Type 0 where
   pub size : length xs ≡ 4
   pub low : l < 4
   pub few : (i : ℕ) → i < 4 → Half (at xs i)
-  pub each : (i : ℕ) → i < 4 → Half (addend a b c d i)
+  pub each : (i : ℕ) → i < 4 → Half (fourOf a b c d i)
 
 -- the cosets q to q + 3, with their members at p to p + 3 and z to z + 3: the decoded bits at 4 n + q, the votes at 2 n + p and 2 n + z
 pub record FourVotes (n q p z l : ℕ) (xs : List ℤ) : Type 0 where

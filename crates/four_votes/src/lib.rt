@@ -5,14 +5,14 @@ ghost use lib.ListN.{length};
 ghost use lib.Bits.{bitXor};
 ghost use lib.IntN.{pos, _+ℤ_};
 ghost use Rattle.words.specs.Written.{Written};
-ghost use Rattle.area.specs.Area.{at, IsBit};
+ghost use Rattle.area.specs.Area.{at, IsBit, fourOf};
 ghost use Rattle.projections.specs.Fours.{bitSum, BitPair};
-ghost use Rattle.four_votes.specs.FourVotes.{addend, Addends, FourVotes, FourVoted};
+ghost use Rattle.four_votes.specs.FourVotes.{Addends, FourVotes, FourVoted};
 
 // Adds v0 to v3 to the four votes at 0 XOR l to 3 XOR l.
 fn add_four(part: &mut [i32], l: usize, v0: i32, v1: i32, v2: i32, v3: i32)
     requires { ⌜ Addends l v0 v1 v2 v3 (now part) ⌝ }
-    ensures { λ _. ⌜ Written (pos 0) 0 4 (λ j. at (now (part .entry)) j +ℤ addend v0 v1 v2 v3 (bitXor j l)) (now (part .entry)) (now (part .exit)) ⌝ }
+    ensures { λ _. ⌜ Written (pos 0) 0 4 (λ j. at (now (part .entry)) j +ℤ fourOf v0 v1 v2 v3 (bitXor j l)) (now (part .entry)) (now (part .exit)) ⌝ }
 {
     let a0 = part[l] + v0;
     let a1 = part[1 ^ l] + v1;

@@ -1,5 +1,5 @@
 -- Cosets by blocks of 4: with the highest one of b at 2 or above, the cosets q to q + 3 have their members in two blocks of 4 places. Assumes nothing.
-use Prim.Native.Nat.{ℕ, zero, suc, _+_, _-_, _*_, _/_, _%_, _^_, _≤_, _<_}
+use Prim.Native.Nat.{ℕ, suc, _+_, _-_, _*_, _/_, _%_, _^_, _≤_, _<_}
 use mathlib.Core.Path.{_≡_, sym, ap, ap₂, _∙_}
 use mathlib.Core.Logic.{_≢_, _⊎_, inl, inr}
 use native.Mathlib.Decide.{decLe}
@@ -12,13 +12,6 @@ use Rattle.direction.specs.Direction.{insertZero}
 use Rattle.direction.specs.Insert.{Top, insert-sum}
 
 -- ---- the places of a block
-
-pub by-four : (P : ℕ → Type 0) → P 0 → P 1 → P 2 → P 3 → (i : ℕ) → i < 4 → P i
-by-four P a b c d zero l = a
-by-four P a b c d (suc zero) l = b
-by-four P a b c d (suc (suc zero)) l = c
-by-four P a b c d (suc (suc (suc zero))) l = d
-by-four P a b c d (suc (suc (suc (suc i)))) l = absurd (omega arith)
 
 pub four-lt : {i l : ℕ} → i < 4 → l < 4 → bitXor i l < 4
 four-lt {i} {l} hi hl = xor-lt 2 i l hi hl
