@@ -17,7 +17,6 @@ use Rattle.peaks.specs.Peaks.{IsPeak}
 use Rattle.peaks.specs.Packing.{correlation-size}
 use Rattle.peaks.specs.SamePeak.{peak-ext}
 use Rattle.quads.specs.QuadLaws.{correlation-quad, Numbers, numbers}
-use Rattle.keys.specs.Keys.{Bounded}
 use Rattle.byte_quads.specs.ByteQuads.{quadAt}
 use Rattle.order_one.specs.OrderOne.{PeakOf}
 use Rattle.hadamard.specs.LowDigits.{byDigits, correlation-digits}
@@ -62,17 +61,6 @@ module _ {k : ℕ} {w : List ℕ} {xs : List ℤ} (t : BlockQuads k w xs) where
       (part-size (λ p. p + 2) v)
       (part-size (λ p. p + 3) v)
 
-  bounded : (v : ℕ) → v < 2 ^ k → Bounded (at xs v)
-  bounded v l =
-      let n = numbers-at v l in
-      record {
-        raisable = n .raisable;
-        first = rw (n .first) (part-size (λ p. p) v);
-        second = rw (n .second) (part-size (λ p. p + 1) v);
-        third = rw (n .third) (part-size (λ p. p + 2) v);
-        fourth = rw (n .fourth) (part-size (λ p. p + 3) v);
-      }
-
   value-is : (u : ℕ) → u < 2 ^ suc (suc k) → valueAt xs u ≡ correlation (suc (suc k)) (values w) u
   value-is u l =
       let n = numbers-at (u / 4) (omega arith) in
@@ -86,7 +74,7 @@ module _ {k : ℕ} {w : List ℕ} {xs : List ℤ} (t : BlockQuads k w xs) where
     block-sought = record {
       some = omega (arith, long, pow-pos k);
       pairs = omega (arith, long);
-      all = record { few = omega (arith, long, small); each = λ v l. bounded v (omega (arith, long)) };
+      all = record { few = omega (arith, long, small); each = λ v l. numbers-at v (omega (arith, long)) .bounded };
       spread = λ u v lu lv ne.
           let hu : u < 2 ^ suc (suc k) = omega (arith, whole) in
           let hv : v < 2 ^ suc (suc k) = omega (arith, whole) in

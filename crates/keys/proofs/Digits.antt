@@ -13,8 +13,8 @@ use mir.Val.{Fits, SFits}
 use Rattle.area.specs.Numbers.{stored, natAbs-add}
 use Rattle.hadamard.specs.CorrelationLaws.{swap4}
 use Rattle.peaks.specs.Stored.{raise-fits, raise-is, raise-casts}
-use Rattle.quads.specs.Quads.{raised, numberOf}
-use Rattle.keys.specs.Keys.{Bounded, bytes, up, pairs}
+use Rattle.quads.specs.Quads.{raised, numberOf, Bounded}
+use Rattle.keys.specs.Keys.{bytes, up, pairs}
 use Rattle.keys.specs.Bytes.{every-other}
 
 -- ---- one digit

@@ -11,8 +11,8 @@ use mir.Syntax.{w32}
 use mir.Val.{toZ, ofZ}
 use mir.Facts.{toZ-pos}
 use Rattle.area.specs.Numbers.{stored}
-use Rattle.quads.specs.Quads.{sumSize, differenceSize}
-use Rattle.keys.specs.Keys.{Bounded, keyOf}
+use Rattle.quads.specs.Quads.{sumSize, differenceSize, Bounded}
+use Rattle.keys.specs.Keys.{keyOf}
 use Rattle.keys.proofs.Sizes.{quad-held, sum-most, difference-most}
 
 -- a test of two numbers

@@ -5,8 +5,8 @@ use native.Mathlib.Omega.{arith}
 use lib.IntN.{ℤ, pos, negsuc, negℤ, natAbs, _+ℤ_, _-ℤ_}
 use borrow.Author.Tests.{le-ltb}
 use Rattle.area.specs.Numbers.{stored, stored-eq, natAbs-add, natAbs-neg}
-use Rattle.quads.specs.Quads.{numberOf, firstSum, lastSum, firstDifference, lastDifference, sumSize, differenceSize}
-use Rattle.keys.specs.Keys.{Bounded, bytes, up, off, offs, pairs}
+use Rattle.quads.specs.Quads.{numberOf, firstSum, lastSum, firstDifference, lastDifference, sumSize, differenceSize, Bounded}
+use Rattle.keys.specs.Keys.{bytes, up, off, offs, pairs}
 use Rattle.keys.specs.Bytes.{first-byte, second-byte, third-byte, fourth-byte}
 
 -- ---- one number

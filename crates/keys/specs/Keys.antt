@@ -8,17 +8,9 @@ use lib.ListN.{length}
 use Rattle.words.specs.Sum.{greatestBelow, sumBelow}
 use Rattle.words.specs.Word.{indicator}
 use Rattle.area.specs.Area.{at}
-use Rattle.quads.specs.Quads.{numberOf, firstSum, lastSum, firstDifference, lastDifference, sumSize, differenceSize, Raisable}
+use Rattle.quads.specs.Quads.{numberOf, firstSum, lastSum, firstDifference, lastDifference, sumSize, differenceSize, Bounded}
 
--- a quad of numbers from -32 to 32: the sums and differences of two fit 8 bits, and so does the sum of two sizes
-pub record Bounded (z : ℤ) : Type 0 where
-  pub raisable : Raisable z
-  pub first : natAbs (numberOf 1 z) ≤ 32
-  pub second : natAbs (numberOf 256 z) ≤ 32
-  pub third : natAbs (numberOf 65536 z) ≤ 32
-  pub fourth : natAbs (numberOf 16777216 z) ≤ 32
-
--- some such quads
+-- some quads of numbers from -32 to 32
 pub record BoundedAll (xs : List ℤ) : Type 0 where
   pub few : length xs ≤ 32
   pub each : (i : ℕ) → i < length xs → Bounded (at xs i)

@@ -3,8 +3,8 @@
 ghost use mathlib.Core.Path.{_≡_};
 ghost use Prim.Native.Nat.{_/_, _%_, _^_, _≤_, _<_};
 ghost use lib.IntN.{pos};
-ghost use Rattle.quads.specs.Quads.{sumSize, differenceSize};
-ghost use Rattle.keys.specs.Keys.{Bounded, BoundedAll, pairs, offs, keyOf, greatestKey, countOf};
+ghost use Rattle.quads.specs.Quads.{sumSize, differenceSize, Bounded};
+ghost use Rattle.keys.specs.Keys.{BoundedAll, pairs, offs, keyOf, greatestKey, countOf};
 
 // The sums and differences of a quad's numbers, each raised by 128, side by side.
 fn pairs_of(z: i32) -> u32
@@ -26,7 +26,7 @@ fn offs_of(f: u32) -> u32
 }
 
 // The sizes of a quad: that of its sums in the lowest byte, that of its differences in the next.
-fn sizes_of(z: i32) -> u32
+pub fn sizes_of(z: i32) -> u32
     requires { ⌜ Bounded z ⌝ }
     ensures { λ b. ⌜ (b % 256 ≡ sumSize z) × (b / 256 % 256 ≡ differenceSize z) ⌝ }
 {

@@ -89,7 +89,7 @@ module _ {m k n q : ℕ} {xs : List ℤ} (a : Layout m k n q xs) (em : suc (suc 
       fours = fours;
       masked = λ j. rw (a .part) (and-mask j k);
       size = sym (c .long ∙ four);
-      each = λ u l. numbers-at u l .raisable;
+      each = λ u l. numbers-at u l .bounded;
     }
 
     -- the correlations of the halves, then of the word

@@ -1,5 +1,5 @@
 -- Quads and their numbers in 32 signed bits, as the code computes with them. Assumes nothing.
-use Prim.Native.Nat.{ℕ, _/_, _%_, _^_, _<_}
+use Prim.Native.Nat.{ℕ, _/_, _%_}
 use mathlib.Core.Path.{_≡_, ap, ap₂, _∙_}
 use native.Mathlib.Omega.{arith}
 use lib.Dec.{T}
@@ -8,11 +8,9 @@ use lib.Signed.{nonNeg}
 use mir.Syntax.{w32}
 use mir.Val.{Fits, SFits, toZ}
 use mir.Facts.{toZ-ofZ}
-use Rattle.area.specs.Numbers.{Half, stored, stored-eq, fits-32, natAbs-add, natAbs-neg, sum-fits, sum-stored}
-use Rattle.peaks.specs.Peaks.{pairSize}
+use Rattle.area.specs.Numbers.{Half, stored, stored-eq, fits-32, natAbs-add, natAbs-neg}
 use Rattle.peaks.specs.Stored.{raise-fits, raise-is, raise-casts, lower-fits, lower-is}
-use Rattle.quads.specs.Quads.{quad, raised, numberOf, Raisable}
-use Rattle.quads.specs.FourSigns.{code}
+use Rattle.quads.specs.Quads.{raised, numberOf, Raisable}
 use Rattle.quads.specs.Small.{number-small}
 
 -- ---- the numbers of a quad
@@ -44,7 +42,7 @@ module _ (w : ℕ) {z : ℤ} (h : Raisable z) where
   unfolding numberOf
   number-is = lower-is 64 digit (omega arith) ∙ rw (raised-is h)
 
--- ---- sums and differences of two numbers of a quad, and their sizes
+-- ---- sums and differences of two numbers of a quad
 
 -- x, which the code makes, is y
 pub record Made (x y : ℤ) : Type 0 where
@@ -77,22 +75,3 @@ module _ {x y : ℤ} (m : Made x y) where
 
   pub made-stored : stored x ≡ y
   made-stored = toZ-ofZ made-fits ∙ m .is
-
-  pub made-small : natAbs (stored x) < 2 ^ 31
-  made-small = rw made-stored (omega (arith, m .half .half))
-
-  -- its absolute value
-  module _ {r : ℤ} (e : r ≡ pos (natAbs (stored x))) where
-    size-is : r ≡ pos (natAbs y)
-    size-is = e ∙ ap (λ (z : ℤ). pos (natAbs z)) made-stored
-
-    size-half : Half r
-    size-half = record { half = rw size-is (m .half .half) }
-
--- the absolute values of two
-module _ {x y r s a b : ℤ} (mx : Made x a) (my : Made y b) (er : r ≡ pos (natAbs (stored x))) (es : s ≡ pos (natAbs (stored y))) where
-  pub sizes-fit : SFits w32 (stored r +ℤ stored s)
-  sizes-fit = sum-fits (size-half mx er) (size-half my es)
-
-  pub sizes-are : stored (stored r +ℤ stored s) ≡ pos (pairSize a b)
-  sizes-are = sum-stored (size-half mx er) (size-half my es) ∙ ap₂ _+ℤ_ (size-is mx er) (size-is my es)

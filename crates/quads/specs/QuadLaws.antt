@@ -8,7 +8,7 @@ use Rattle.hadamard.specs.Correlation.{correlation, sign}
 use Rattle.hadamard.specs.CorrelationLaws.{sign-size}
 use Rattle.peaks.specs.Peaks.{packedBy}
 use Rattle.peaks.specs.Packing.{correlation-packed, lifted, lifted-back, packed-size, packed-sum}
-use Rattle.quads.specs.Quads.{quad, raised, numberOf, Raisable}
+use Rattle.quads.specs.Quads.{quad, raised, numberOf, Raisable, Bounded}
 
 pub correlation-quad :
     (m : ℕ) (a b c d : ℕ → ℤ) (u : ℕ)
@@ -72,7 +72,7 @@ module _ (a b c d : ℤ) (ha : natAbs a ≤ 32) (hb : natAbs b ≤ 32) (hc : nat
 
 -- z is a quad of four small numbers
 pub record Numbers (a b c d z : ℤ) : Type 0 where
-  pub raisable : Raisable z
+  pub bounded : Bounded z
   pub first : numberOf 1 z ≡ a
   pub second : numberOf 256 z ≡ b
   pub third : numberOf 65536 z ≡ c
@@ -81,11 +81,21 @@ pub record Numbers (a b c d z : ℤ) : Type 0 where
 pub numbers :
     {a b c d z : ℤ} → z ≡ quad a b c d → natAbs a ≤ 32 → natAbs b ≤ 32 → natAbs c ≤ 32 → natAbs d ≤ 32 → Numbers a b c d z
 numbers {a} {b} {c} {d} e ha hb hc hd =
+    let first = first-number a b c d ha hb hc hd in
+    let second = second-number a b c d ha hb hc hd in
+    let third = third-number a b c d ha hb hc hd in
+    let fourth = fourth-number a b c d ha hb hc hd in
     subst (Numbers a b c d) (sym e)
     (record {
-      raisable = quad-raisable a b c d ha hb hc hd;
-      first = first-number a b c d ha hb hc hd;
-      second = second-number a b c d ha hb hc hd;
-      third = third-number a b c d ha hb hc hd;
-      fourth = fourth-number a b c d ha hb hc hd;
+      bounded = record {
+        raisable = quad-raisable a b c d ha hb hc hd;
+        first = rw first ha;
+        second = rw second hb;
+        third = rw third hc;
+        fourth = rw fourth hd;
+      };
+      first = first;
+      second = second;
+      third = third;
+      fourth = fourth;
     })

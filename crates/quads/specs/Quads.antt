@@ -37,3 +37,11 @@ differenceSize z = pairSize (firstDifference z) (lastDifference z)
 -- a number that can be raised: 32 in each digit is the most
 pub record Raisable (z : ℤ) : Type 0 where
   pub small : natAbs z ≤ 538976288
+
+-- a quad of numbers from -32 to 32: the sums and differences of two fit 8 bits, and so does the sum of two sizes
+pub record Bounded (z : ℤ) : Type 0 where
+  pub raisable : Raisable z
+  pub first : natAbs (numberOf 1 z) ≤ 32
+  pub second : natAbs (numberOf 256 z) ≤ 32
+  pub third : natAbs (numberOf 65536 z) ≤ 32
+  pub fourth : natAbs (numberOf 16777216 z) ≤ 32

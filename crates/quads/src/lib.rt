@@ -1,11 +1,9 @@
-// Four numbers packed in one: the numbers of a quad, and the sizes of the pairs that their sums and their differences are.
+// Four numbers packed in one: the numbers of a quad, and the pairs that their sums and their differences are.
 ghost use mathlib.Core.Bool.{cond};
 ghost use mathlib.Core.Path.{_≡_};
 ghost use Prim.Native.Nat.{_<_};
 ghost use lib.Dec.{eqb};
-ghost use lib.IntN.{pos};
-ghost use Rattle.quads.specs.Quads.{numberOf, sumSize, differenceSize, firstSum, lastSum, firstDifference, lastDifference};
-ghost use Rattle.quads.specs.Quads.{Raisable};
+ghost use Rattle.quads.specs.Quads.{numberOf, firstSum, lastSum, firstDifference, lastDifference, Raisable};
 
 // The number of weight w in a quad.
 fn number_of(z: i32, w: u32) -> i32
@@ -13,26 +11,6 @@ fn number_of(z: i32, w: u32) -> i32
     ensures { λ x. ⌜ x ≡ numberOf w z ⌝ }
 {
     ((z + 1077952576) as u32 / w % 256) as i32 - 64
-}
-
-// The size of the pair of a quad's sums.
-pub fn sum_size(z: i32) -> i32
-    requires { ⌜ Raisable z ⌝ }
-    ensures { λ s. ⌜ s ≡ pos (sumSize z) ⌝ }
-{
-    let x = number_of(z, 1) + number_of(z, 256);
-    let y = number_of(z, 65536) + number_of(z, 16777216);
-    peaks::absolute(x) + peaks::absolute(y)
-}
-
-// The size of the pair of a quad's differences.
-pub fn difference_size(z: i32) -> i32
-    requires { ⌜ Raisable z ⌝ }
-    ensures { λ s. ⌜ s ≡ pos (differenceSize z) ⌝ }
-{
-    let x = number_of(z, 1) - number_of(z, 256);
-    let y = number_of(z, 65536) - number_of(z, 16777216);
-    peaks::absolute(x) + peaks::absolute(y)
 }
 
 // Two numbers, of which the peak is the sum or the difference.

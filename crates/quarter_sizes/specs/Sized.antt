@@ -7,7 +7,7 @@ use lib.IntN.{ℤ, pos}
 use lib.ListN.{length}
 use Rattle.words.specs.Written.{Written}
 use Rattle.area.specs.Area.{at}
-use Rattle.quads.specs.Quads.{sumSize, differenceSize, Raisable}
+use Rattle.quads.specs.Quads.{sumSize, differenceSize, Bounded}
 
 -- q quads in the front of a part of four times that length; q is a power of 2
 pub record Quads (q : ℕ) (xs : List ℤ) : Type 0 where
@@ -16,7 +16,7 @@ pub record Quads (q : ℕ) (xs : List ℤ) : Type 0 where
   pub fours : q % 4 ≡ 0
   pub masked : (j : ℕ) → bitAnd j (q - 1) ≡ j % q
   pub size : 4 * q ≡ length xs
-  pub each : (i : ℕ) → i < q → Raisable (at xs i)
+  pub each : (i : ℕ) → i < q → Bounded (at xs i)
 
 -- the sizes of the four quads from i on: those of the sums from q + i on, those of the differences from 2 * q + i on
 pub record FourSized (q i : ℕ) (xs ys : List ℤ) : Type 0 where

@@ -10,7 +10,8 @@ use Rattle.area.specs.Area.{at}
 use Rattle.area.specs.Numbers.{stored, stored-eq}
 use Rattle.hadamard.specs.Correlation.{constantOf}
 use Rattle.hadamard.specs.CorrelationLaws.{constantOf-lt}
-use Rattle.keys.specs.Keys.{greatestKey, Bounded}
+use Rattle.keys.specs.Keys.{greatestKey}
+use Rattle.quads.specs.Quads.{Bounded}
 use Rattle.peaks.specs.Stored.{as-it-is, number-read}
 use Rattle.block_peak.specs.QuadPeaks.{firsts, lasts, quad-sizes-small, Top, top-found, top-peak, top-first, top-last, top-quad-below}
 use Rattle.block_peak.proofs.find_peak.Statement.{statement}

@@ -16,8 +16,8 @@ use Rattle.words.specs.SumLaws.{sum-most}
 use Rattle.words.specs.Word.{indicator}
 use Rattle.area.specs.Area.{at}
 use Rattle.area.specs.Numbers.{stored}
-use Rattle.quads.specs.Quads.{sumSize, differenceSize}
-use Rattle.keys.specs.Keys.{Bounded, countOf}
+use Rattle.quads.specs.Quads.{sumSize, differenceSize, Bounded}
+use Rattle.keys.specs.Keys.{countOf}
 use Rattle.keys.proofs.Sizes.{quad-held}
 use Rattle.keys.proofs.Greater.{sizes-held}
 use Rattle.keys.proofs.count_of.Statement.{statement}

@@ -17,7 +17,7 @@ use Rattle.peaks.specs.Peaks.{Sizes}
 use Rattle.peaks.specs.Stored.{number-read, as-it-is, size-whole, peak-as}
 use Rattle.quarter_sizes.specs.Sized.{Quads}
 use Rattle.quarter_sizes.specs.SizedLaws.{sized-quads}
-use Rattle.quarter_sizes.proofs.QuadReads.{quad-read, quad-raisable}
+use Rattle.quarter_sizes.proofs.QuadReads.{quad-read, quad-bounded}
 use Rattle.quarters.specs.Quarters.{firsts, lasts}
 use Rattle.quarters.specs.QuadSizes.{sizes-held, sizes-small, lowOf, low-below, first-at, last-at}
 use Rattle.quarters.proofs.search.Statement.{statement}
@@ -185,7 +185,7 @@ slice-copy-out-pair-at c = quad-at c .below
 pair-at-requires : tie.Need-pair-at-requires
 pair-at-requires c κs =
     let e = c .before in
-    quad-raisable (quads-at (sized (e .before))) (low e) (quad-below e)
+    quad-bounded (quads-at (sized (e .before))) (low e) (quad-below e) .raisable
 
 add-peak-at : tie.Need-add-peak-at
 add-peak-at c =
