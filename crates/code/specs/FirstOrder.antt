@@ -2,9 +2,9 @@
 -- Assumes nothing.
 use Prim.Native.Nat.{ℕ, zero, suc, _+_, _%_, _^_, _≤_, _<_}
 use mathlib.Core.Path.{_≡_, refl, sym, ap, ap₂, _∙_}
-use mathlib.Core.Bool.{Bool, true, false, _&&_}
+use mathlib.Core.Bool.{Bool, true, false, _&&_, and-false}
 use mathlib.Core.List.{List}
-use native.Mathlib.Decide.{decLe}
+use native.Mathlib.Decide.{le-ind}
 use native.Mathlib.Omega.{arith}
 use lib.Dec.{eqb}
 use lib.Pow.{pow-pos}
@@ -15,7 +15,7 @@ use Rattle.code.specs.Degree.{low-parity}
 use Rattle.code.specs.Affine.{constant-of-low, low-constant}
 use Rattle.code.specs.Halves.{firstHalf, sumHalves, bit-first, bit-sum, word-first, word-sum, codeword-first, codeword-sum, codeword-join, codeword-full}
 use Rattle.words.specs.Sum.{allBelow, total}
-use Rattle.words.specs.SumLaws.{all-ext, all-true, true-all, both-true}
+use Rattle.words.specs.SumLaws.{all-ext, all-true, true-all, both-true, same-test}
 use Rattle.words.specs.Word.{IsWord, bit}
 
 -- the second h bits of f are the first h with one bit added to all
@@ -26,16 +26,6 @@ repeats f h = allBelow h (λ i. eqb ((f i + f (h + i)) % 2) ((f 0 + f h) % 2))
 unfoldable pub levelsTest : ℕ → (ℕ → ℕ) → Bool
 levelsTest zero f = true
 levelsTest (suc m) f = levelsTest m f && repeats f (2 ^ m)
-
--- two tests that pass together are one
-same-test : (a b : Bool) → (a ≡ true → b ≡ true) → (b ≡ true → a ≡ true) → a ≡ b
-same-test true b f g = sym (f refl)
-same-test false true f g = g refl
-same-test false false f g = refl
-
-and-false : (a : Bool) → a && false ≡ false
-and-false true = refl
-and-false false = refl
 
 true-both : (a b : Bool) → a ≡ true → b ≡ true → a && b ≡ true
 true-both a b ea eb = rw (ea, eb) refl
@@ -93,15 +83,12 @@ module _ (f : ℕ → ℕ) where
   unfolding levelsTest
   levels-next k e r = true-both (levelsTest k f) (repeats f (2 ^ k)) e r
 
-  -- what fails so far fails
+  -- where k levels fail, so do more
   pub levels-fail : (m k : ℕ) → k ≤ m → levelsTest k f ≡ false → levelsTest m f ≡ false
   unfolding levelsTest
-  levels-fail zero k l e = ap (λ (i : ℕ). levelsTest i f) {x = 0} {y = k} (omega arith) ∙ e
-  levels-fail (suc m) k l e = elim (decLe k m) [
-    | yes h ↦ rw (levels-fail m k h e) refl
-    | no h ↦ ap (λ (i : ℕ). levelsTest i f) {x = suc m} {y = k} (omega arith) ∙ e
-  ]
+  levels-fail m k l e = le-ind (λ (j : ℕ). levelsTest j f ≡ false) e (λ j h i. rw i refl) m l
 
+  -- a level that fails
   pub levels-stop : (m k : ℕ) → k < m → repeats f (2 ^ k) ≡ false → levelsTest m f ≡ false
   unfolding levelsTest
   levels-stop m k l e = levels-fail m (suc k) l (rw e (and-false (levelsTest k f)))

@@ -8,7 +8,7 @@ ghost use Rattle.words.specs.Sum.{tabulate};
 ghost use Rattle.words.specs.Ones.{affineBit};
 ghost use Rattle.words.specs.Written.{Written};
 ghost use Rattle.area.specs.Area.{IsBit};
-ghost use Rattle.octets.specs.Octets.{octet, EightBits};
+ghost use Rattle.octets.specs.Octets.{octet, AreBits};
 
 // The parity of the ones in u.
 fn parity(u: usize) -> u64
@@ -21,7 +21,7 @@ fn parity(u: usize) -> u64
 // The bit t added to each of eight bits.
 fn add_bit(x: u64, t: u64) -> u64
     requires { ⌜ t < 2 ⌝ }
-    ensures { λ y. ⌜ ((f : ℕ → ℕ) → EightBits f → x ≡ octet f → y ≡ octet (λ i. (f i + t) % 2)) ⌝ }
+    ensures { λ y. ⌜ ((f : ℕ → ℕ) → AreBits f → x ≡ octet f → y ≡ octet (λ i. (f i + t) % 2)) ⌝ }
 {
     x ^ t * 72340172838076673
 }
