@@ -21,8 +21,11 @@ use Rattle.byte_quads.specs.ByteQuads.{quadAt}
 use Rattle.blocks.specs.Blocks.{Block}
 use Rattle.refusals.specs.declared.Refusal.the-variants.{Tie}
 use Rattle.refusals.specs.declared.Decoded.the-variants.{Accepted, Refused}
+use Rattle.code.specs.Code.{codewordTest}
+use Rattle.code.specs.Codewords.{codeword-of-test}
 use Rattle.rule.specs.Reading.{order1}
-use Rattle.order_one.specs.OrderOne.{PeakOf, nearest, order1-tie, order1-nearest, whole-nearest, constant-bit}
+use Rattle.rule.specs.Nearest.{order1-codeword}
+use Rattle.order_one.specs.OrderOne.{PeakOf, nearest, order1-tie, order1-nearest, constant-bit}
 use Rattle.block_peak.specs.Sought.{valueAt, Sought}
 use Rattle.direct.specs.Direct.{Readable, Gives}
 use Rattle.direct.specs.BlockPeak.{BlockQuads, block-sought, block-peak}
@@ -74,14 +77,18 @@ module _ {m : ℕ} {word out : List ℕ} {area : List ℤ} (r : Readable m word 
       let bit = constant-bit k e in
       (rw (bit-back bit) bit, omega (arith, peak-below (k .peak) e, pow-mono {i = m} {j = 10} (omega (arith, r .few))), sixteens)
 
+-- a block that is a codeword already
+pub codeword-gives :
+    {m : ℕ} {w out out′ : List ℕ} → 1 ≤ m → IsWord m w → codewordTest m 1 w ≡ true → out′ ≡ w
+    → Gives (order1 m (values w)) out out′ (Accepted 0 1)
+codeword-gives {m} {w} hm hw e o =
+    rw (order1-codeword hm (codeword-of-test m 1 w hw e)) (record { answer = refl; output = o })
+
 module _ {m : ℕ} {w : List ℕ} {p : Peak} (k : PeakOf m w p) where
   pub tie-gives : {out : List ℕ} → p .alone ≡ false → Gives (order1 m (values w)) out out (Refused Tie 0 1)
   tie-gives e = rw (order1-tie k e) (record { answer = refl; output = refl })
 
   module _ (e : p .alone ≡ true) where
-    pub whole-gives : {out out′ : List ℕ} → p .whole ≡ true → out′ ≡ w → Gives (order1 m (values w)) out out′ (Accepted 0 1)
-    whole-gives f o = rw (order1-nearest k e) (record { answer = refl; output = o ∙ whole-nearest k e f })
-
     written-is : tabulate (2 ^ m) (affineBit (p .mask) (natAbs (stored (p .constant)))) ≡ nearest m w p
     unfolding affine
     written-is =

@@ -8,21 +8,21 @@ ghost use Rattle.rule.specs.Reading.{order1};
 ghost use Rattle.rule.specs.Decoding.{zeros};
 ghost use Rattle.direct.specs.Direct.{Readable, Gives};
 
-// The reading at order 1 of a block. A word whose greatest absolute correlation is n is a codeword already.
+// The reading at order 1 of a block. A block that is a codeword already is its own nearest one, and needs no correlations.
 fn first_order(m: usize, word: &[u8], out: &mut [u8], area: &mut [i32]) -> Decoded
     requires { ⌜ Readable m (now word) (now out) (now area) ⌝ }
     ensures { λ d. ⌜ Gives (order1 m (values (now (word .entry)))) (now (out .entry)) (now (out .exit)) d ⌝ }
 {
+    if block_test::is_affine(m, word) {
+        words::copy(word, out);
+        return Decoded::Accepted(0, 1);
+    }
     let k = m - 2;
     let q = words::size(k);
     blocks::correlate(k, word, area);
     let peak = find_peak(q + q, &area[0..q]);
     if !peak.alone {
         return Decoded::Refused(Refusal::Tie, 0, 1);
-    }
-    if peak.whole {
-        words::copy(word, out);
-        return Decoded::Accepted(0, 1);
     }
     let mask = peak.mask;
     let constant = peak.constant;
