@@ -1,15 +1,15 @@
 -- Blocks of 4 entries of the area, read in pairs. Assumes nothing.
 use Prim.Native.Nat.{ℕ, _+_, _-_, _%_, _≤_, _<_}
-use mathlib.Core.Path.{_≡_, refl, _∙_}
+use mathlib.Core.Path.{_≡_, _∙_}
 use mathlib.Core.List.{List}
 use native.Mathlib.Omega.{arith}
 use lib.Bits.{bitXor}
-use lib.ListN.{length, set, take, drop}
+use lib.ListN.{length, take, drop}
 use lib.IntN.{ℤ, pos, natAbs}
-use Rattle.words.specs.Written.{Written, written-four}
+use Rattle.words.specs.Written.{Written}
 use Rattle.words.specs.Parts.{part-length, part-at}
-use Rattle.area.specs.Area.{at, IsBit}
-use Rattle.area.specs.AreaLaws.{is-bit, bit-back}
+use Rattle.area.specs.Area.{at, IsBit, fourOf}
+use Rattle.area.specs.AreaLaws.{is-bit, bit-back, four-as}
 use Rattle.area.specs.Numbers.{stored}
 use Rattle.projections.specs.Fours.{bitSum, BitPair, TwoBlocks, pairSum}
 use Rattle.projections.specs.FourLaws.{four-lt}
@@ -52,10 +52,10 @@ module _ {c p z l : ℕ} {xs : List ℤ} (t : TwoBlocks c p z l xs) where
   written : (i : ℕ) → i < 4 → {x : ℤ} → Sum i x → stored x ≡ pairSum p z l xs i
   written i hi {x} e = let s : x ≡ pairSum p z l xs i = e ∙ four-sum t i hi in rw s (bit-back (sum-bit (at xs (p + i)) (at xs (z + bitXor i l))))
 
-  pub four-written : {a b d e : ℤ} → Sum 0 a → Sum 1 b → Sum 2 d → Sum 3 e
-      → Written (pos 0) c 4 (pairSum p z l xs) xs (set (set (set (set xs c (stored a)) (c + 1) (stored b)) (c + 2) (stored d)) (c + 3) (stored e))
-  four-written ea eb ed ee =
-      written-four c refl (omega arith)
+  pub four-written : {a b d e : ℤ} {ys : List ℤ} → Sum 0 a → Sum 1 b → Sum 2 d → Sum 3 e
+      → Written (pos 0) c 4 (fourOf (stored a) (stored b) (stored d) (stored e)) xs ys → Written (pos 0) c 4 (pairSum p z l xs) xs ys
+  four-written ea eb ed ee w =
+      four-as w
       (written 0 (omega arith) ea)
       (written 1 (omega arith) eb)
       (written 2 (omega arith) ed)

@@ -30,10 +30,7 @@ fn project_four(area: &mut [i32], c: usize, p: usize, z: usize, l: usize)
     let x1 = pair(x, y, 1, l);
     let x2 = pair(x, y, 2, l);
     let x3 = pair(x, y, 3, l);
-    area[c] = x0;
-    area[c + 1] = x1;
-    area[c + 2] = x2;
-    area[c + 3] = x3;
+    area::put_four(area, c, x0, x1, x2, x3);
 }
 
 // The projection by w + l.

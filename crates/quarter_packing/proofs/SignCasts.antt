@@ -6,13 +6,13 @@ use native.Mathlib.Nat.{add-zero}
 use native.Mathlib.Omega.{arith}
 use lib.Dec.{T, ltb, lit<}
 use lib.IntN.{ℤ, pos, natAbs, _+ℤ_, _-ℤ_, _*ℤ_}
-use lib.ListN.{length, set}
+use lib.ListN.{length}
 use mir.Syntax.{w32, w64}
 use mir.Val.{Fits, SFits}
 use mir.Facts.{toZ-ofZ}
-use Rattle.words.specs.Written.{Written, written-four}
-use Rattle.area.specs.Area.{at, IsBit, zero-bit, one-bit}
-use Rattle.area.specs.AreaLaws.{bit-lt}
+use Rattle.words.specs.Written.{Written}
+use Rattle.area.specs.Area.{at, IsBit, zero-bit, one-bit, fourOf}
+use Rattle.area.specs.AreaLaws.{bit-lt, four-as}
 use Rattle.area.specs.Numbers.{stored, stored-eq, fits-32}
 use Rattle.area.specs.Places.{Places, index-fits, places}
 use Rattle.hadamard.specs.Correlation.{sign}
@@ -108,11 +108,11 @@ module _ (i : ℕ) {q : ℕ} {xs : List ℤ} (pre : (i + 4 ≤ q) × QuarterBits
 
   -- four of them written after the word
   pub four-packed :
-      {w x y z : ℤ} → Quad i w → Quad (i + 1) x → Quad (i + 2) y → Quad (i + 3) z
-      → Written (pos 0) (4 * q + i) 4 (λ k. quadSigns q xs (i + k)) xs
-      (set (set (set (set xs (4 * q + i) (stored w)) (4 * q + i + 1) (stored x)) (4 * q + i + 2) (stored y)) (4 * q + i + 3) (stored z))
-  four-packed ew ex ey ez =
-      written-four (4 * q + i) refl (omega arith)
+      {a : ℕ} {w x y z : ℤ} {ys : List ℤ} → Quad i w → Quad (i + 1) x → Quad (i + 2) y → Quad (i + 3) z
+      → Written (pos 0) a 4 (fourOf (stored w) (stored x) (stored y) (stored z)) xs ys
+      → Written (pos 0) a 4 (λ k. quadSigns q xs (i + k)) xs ys
+  four-packed ew ex ey ez k =
+      four-as k
       (rw (add-zero i) (signs-held i ew))
       (signs-held (i + 1) ex)
       (signs-held (i + 2) ey)

@@ -24,11 +24,7 @@ fn pack_four(q: usize, i: usize, area: &mut [i32])
     let z1 = quad_at(q, i + 1, area);
     let z2 = quad_at(q, i + 2, area);
     let z3 = quad_at(q, i + 3, area);
-    let e = 4 * q + i;
-    area[e] = z0;
-    area[e + 1] = z1;
-    area[e + 2] = z2;
-    area[e + 3] = z3;
+    area::put_four(area, 4 * q + i, z0, z1, z2, z3);
 }
 
 // The signs of the word's quarters, packed, after the word.

@@ -1,12 +1,9 @@
 -- `quarter_packing::pack_four` meets its contract: all four quads are made before the first is written. Assumes nothing.
-use Prim.Native.Nat.{ℕ, _+_, _*_}
-use mathlib.Core.List.{List, [], _∷_}
-use lib.IntN.{ℤ}
+use Prim.Native.Nat.{_+_, _*_}
 use lib.ListN.{length}
 use mir.Syntax.{w64}
 use mir.Val.{Fits}
-use Rattle.area.specs.Numbers.{stored}
-use Rattle.area.specs.Places.{Places, below-sets}
+use Rattle.area.specs.Places.{Places}
 use Rattle.quarter_packing.proofs.SignCasts.{first-quad, four-packed, next-quad, packed-many, packed-source, packed-target}
 use Rattle.quarter_packing.proofs.pack_four.Statement.{statement}
 use Rattle.quarter_packing.proofs.pack_four.Tie as tie
@@ -45,65 +42,24 @@ quad-at-requires-4 c κs = next-quad (c .before .before .before .before .before 
 abbrev start : tie.After-quad-at4 → tie.Start
 start c = c .before .before .before .before .before .before .before .before
 
--- the first quads stored, the last first
-abbrev one : tie.After-quad-at4 → List (ℕ × ℤ)
-one c = (4 * start c .args .q + start c .args .i, stored (c .before .before .before .before .before .before .quad-at .result)) ∷ []
+mul-put-four : tie.Need-mul-put-four
+mul-put-four c = many (start (c .before))
 
-abbrev two : tie.After-quad-at4 → List (ℕ × ℤ)
-two c = (4 * start c .args .q + start c .args .i + 1, stored (c .before .before .before .before .quad-at2 .result)) ∷ one c
+add-put-four : tie.Need-add-put-four
+add-put-four c = target (start (c .before)) .start .index
 
-abbrev three : tie.After-quad-at4 → List (ℕ × ℤ)
-three c = (4 * start c .args .q + start c .args .i + 2, stored (c .before .before .quad-at3 .result)) ∷ two c
-
-mul-e : tie.Need-mul-e
-mul-e c = many (start c)
-
-add-e : tie.Need-add-e
-add-e c = target (start c) .start .index
-
-mul-z0 : tie.Need-mul-z0
-mul-z0 c = target (start c) .start .bytes
-
-slice-set-from-z0 : tie.Need-slice-set-from-z0
-slice-set-from-z0 c = target (start c) .start .below
-
-add-z1 : tie.Need-add-z1
-add-z1 c = target (start c) .each 1 tt .index
-
-mul-z1 : tie.Need-mul-z1
-mul-z1 c = target (start c) .each 1 tt .bytes
-
-slice-set-from-z1 : tie.Need-slice-set-from-z1
-slice-set-from-z1 c = below-sets (start c .args .area .now) (one c) (target (start c) .each 1 tt .below)
-
-add-z2 : tie.Need-add-z2
-add-z2 c = target (start c) .each 2 tt .index
-
-mul-z2 : tie.Need-mul-z2
-mul-z2 c = target (start c) .each 2 tt .bytes
-
-slice-set-from-z2 : tie.Need-slice-set-from-z2
-slice-set-from-z2 c = below-sets (start c .args .area .now) (two c) (target (start c) .each 2 tt .below)
-
-add-z3 : tie.Need-add-z3
-add-z3 c = target (start c) .each 3 tt .index
-
-mul-z3 : tie.Need-mul-z3
-mul-z3 c = target (start c) .each 3 tt .bytes
-
-slice-set-from-z3 : tie.Need-slice-set-from-z3
-slice-set-from-z3 c = below-sets (start c .args .area .now) (three c) (target (start c) .each 3 tt .below)
+put-four-requires : tie.Need-put-four-requires
+put-four-requires c κs = target (start (c .before)) .within
 
 returns : tie.Need-returns
 returns c =
-    let s = c .before .before .before .before .before .before .before .before in
-    four-packed
-    (s .args .i)
-    (s .pre)
-    (c .before .before .before .before .before .before .quad-at .ensures)
-    (c .before .before .before .before .quad-at2 .ensures)
-    (c .before .before .quad-at3 .ensures)
-    (c .quad-at4 .ensures)
+    let z = c .before .before .before in
+    four-packed (start z .args .i) (start z .pre)
+    (z .before .before .before .before .before .before .quad-at .ensures)
+    (z .before .before .before .before .quad-at2 .ensures)
+    (z .before .before .quad-at3 .ensures)
+    (z .quad-at4 .ensures)
+    (c .before .put-four .ensures)
 
 same-length : tie.Need-same-length
 same-length c = returns c .long
@@ -119,18 +75,8 @@ pack-four-spec =
     quad-at-requires-3
     add-quad-at-3
     quad-at-requires-4
-    mul-e
-    add-e
-    mul-z0
-    slice-set-from-z0
-    add-z1
-    mul-z1
-    slice-set-from-z1
-    add-z2
-    mul-z2
-    slice-set-from-z2
-    add-z3
-    mul-z3
-    slice-set-from-z3
+    mul-put-four
+    add-put-four
+    put-four-requires
     same-length
     returns)

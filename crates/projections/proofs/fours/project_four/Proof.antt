@@ -1,11 +1,7 @@
 -- `projections::fours::project_four` meets its contract: all bits are read before the first sum is written. Assumes nothing.
-use Prim.Native.Nat.{ℕ, _+_}
-use mathlib.Core.List.{List, [], _∷_}
 use lib.Dec.{lit<}
-use lib.IntN.{ℤ}
 use lib.ListN.{length}
-use Rattle.area.specs.Numbers.{stored}
-use Rattle.area.specs.Places.{Places, below-sets, places}
+use Rattle.area.specs.Places.{Places, places}
 use Rattle.projections.proofs.FourParts.{four-pair, four-written}
 use Rattle.projections.proofs.fours.project_four.Statement.{statement}
 use Rattle.projections.proofs.fours.project_four.Tie as tie
@@ -16,9 +12,6 @@ place c = places (c .good .0 .1) tt (c .pre .place)
 
 partner : (c : tie.Start) → Places (c .args .z) 4 (length (c .args .area .now))
 partner c = places (c .good .0 .1) tt (c .pre .partner)
-
-target : (c : tie.Start) → Places (c .args .c) 4 (length (c .args .area .now))
-target c = places (c .good .0 .1) tt (c .pre .room)
 
 add-x : tie.Need-add-x
 add-x c = place c .end
@@ -62,54 +55,15 @@ pair-requires-3 c κs = four-pair (c .before .before .before .before .before .pr
 pair-requires-4 : tie.Need-pair-requires-4
 pair-requires-4 c κs = four-pair (c .before .before .before .before .before .before .pre) 3 (lit< tt)
 
-abbrev start : tie.After-pair4 → tie.Start
-start c = c .before .before .before .before .before .before .before
-
--- the first sums stored, the last first
-abbrev one : tie.After-pair4 → List (ℕ × ℤ)
-one c = (start c .args .c, stored (c .before .before .before .pair .result)) ∷ []
-
-abbrev two : tie.After-pair4 → List (ℕ × ℤ)
-two c = (start c .args .c + 1, stored (c .before .before .pair2 .result)) ∷ one c
-
-abbrev three : tie.After-pair4 → List (ℕ × ℤ)
-three c = (start c .args .c + 2, stored (c .before .pair3 .result)) ∷ two c
-
-mul-x0 : tie.Need-mul-x0
-mul-x0 c = target (start c) .start .bytes
-
-slice-set-from-x0 : tie.Need-slice-set-from-x0
-slice-set-from-x0 c = target (start c) .start .below
-
-add-x1 : tie.Need-add-x1
-add-x1 c = target (start c) .each 1 tt .index
-
-mul-x1 : tie.Need-mul-x1
-mul-x1 c = target (start c) .each 1 tt .bytes
-
-slice-set-from-x1 : tie.Need-slice-set-from-x1
-slice-set-from-x1 c = below-sets (start c .args .area .now) (one c) (target (start c) .each 1 tt .below)
-
-add-x2 : tie.Need-add-x2
-add-x2 c = target (start c) .each 2 tt .index
-
-mul-x2 : tie.Need-mul-x2
-mul-x2 c = target (start c) .each 2 tt .bytes
-
-slice-set-from-x2 : tie.Need-slice-set-from-x2
-slice-set-from-x2 c = below-sets (start c .args .area .now) (two c) (target (start c) .each 2 tt .below)
-
-add-x3 : tie.Need-add-x3
-add-x3 c = target (start c) .each 3 tt .index
-
-mul-x3 : tie.Need-mul-x3
-mul-x3 c = target (start c) .each 3 tt .bytes
-
-slice-set-from-x3 : tie.Need-slice-set-from-x3
-slice-set-from-x3 c = below-sets (start c .args .area .now) (three c) (target (start c) .each 3 tt .below)
+put-four-requires : tie.Need-put-four-requires
+put-four-requires c κs = c .before .before .before .before .before .before .before .before .pre .room
 
 returns : tie.Need-returns
-returns c = four-written (c .before .before .before .before .before .before .before .pre) (c .before .before .before .pair .ensures) (c .before .before .pair2 .ensures) (c .before .pair3 .ensures) (c .pair4 .ensures)
+returns c =
+    let p = c .before .before .before in
+    four-written (p .before .before .before .before .before .before .before .pre)
+    (p .before .before .before .pair .ensures) (p .before .before .pair2 .ensures) (p .before .pair3 .ensures) (p .pair4 .ensures)
+    (c .before .put-four .ensures)
 
 same-length : tie.Need-same-length
 same-length c = returns c .long
@@ -132,16 +86,6 @@ project-four-spec =
     pair-requires-2
     pair-requires-3
     pair-requires-4
-    mul-x0
-    slice-set-from-x0
-    add-x1
-    mul-x1
-    slice-set-from-x1
-    add-x2
-    mul-x2
-    slice-set-from-x2
-    add-x3
-    mul-x3
-    slice-set-from-x3
+    put-four-requires
     same-length
     returns)
