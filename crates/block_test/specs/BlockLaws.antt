@@ -7,16 +7,12 @@ use native.Mathlib.Omega.{arith}
 use borrow.Author.Tests.{eq-eqb}
 use lib.Bits.{bitXor}
 use lib.Dec.{eqb}
-use Rattle.words.specs.Sum.{allBelow, total}
+use Rattle.words.specs.Sum.{total}
 use Rattle.words.specs.SumLaws.{all-append, all-ext}
 use Rattle.words.specs.Xor.{xor-bits}
-use Rattle.code.specs.FirstOrder.{repeats, levelsTest, repeats-one, levels-three}
+use Rattle.code.specs.FirstOrder.{repeatsBelow, repeats, levelsTest, repeats-one, levels-three}
 use Rattle.octets.specs.Octets.{packed, AreBits}
 use Rattle.octets.specs.PackedBits.{parities-bits, packed-constant, packed-equal, packed-xor}
-
--- `repeats` at the first i places
-abbrev pub repeatsBelow : (ℕ → ℕ) → ℕ → ℕ → Bool
-repeatsBelow f h i = allBelow i (λ j. eqb ((f j + f (h + j)) % 2) ((f 0 + f h) % 2))
 
 module _ {f : ℕ → ℕ} (b : AreBits f) where
   four-bits : (i : ℕ) → AreBits (λ j. f (i + j))

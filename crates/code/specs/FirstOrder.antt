@@ -18,9 +18,13 @@ use Rattle.words.specs.Sum.{allBelow, total}
 use Rattle.words.specs.SumLaws.{all-ext, all-true, true-all, both-true, same-test}
 use Rattle.words.specs.Word.{IsWord, bit}
 
--- the second h bits of f are the first h with one bit added to all
+-- the first n of the bits from h on are the first n of f with one bit added to all
+abbrev pub repeatsBelow : (ℕ → ℕ) → ℕ → ℕ → Bool
+repeatsBelow f h n = allBelow n (λ i. eqb ((f i + f (h + i)) % 2) ((f 0 + f h) % 2))
+
+-- the second h bits are the first h with one bit added to all
 unfoldable pub repeats : (ℕ → ℕ) → ℕ → Bool
-repeats f h = allBelow h (λ i. eqb ((f i + f (h + i)) % 2) ((f 0 + f h) % 2))
+repeats f h = repeatsBelow f h h
 
 -- the same at every level of the first 2 ^ m bits
 unfoldable pub levelsTest : ℕ → (ℕ → ℕ) → Bool

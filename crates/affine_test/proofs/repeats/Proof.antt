@@ -1,8 +1,7 @@
 -- `affine_test::repeats` meets its contract: same is the test of the places passed. Assumes nothing.
-use Prim.Native.Nat.{ℕ, _+_, _-_, _%_, _≤_}
+use Prim.Native.Nat.{_+_, _-_, _%_, _≤_}
 use mathlib.Core.Path.{_≡_, ap, ap₂, _∙_}
 use mathlib.Core.Bool.{Bool, _&&_}
-use mathlib.Core.List.{List}
 use native.Mathlib.Omega.{arith}
 use borrow.Author.Needs.{needs}
 use lib.Dec.{eqb}
@@ -11,24 +10,17 @@ use lib.Bits.{bitXor}
 use mir.Syntax.{w32}
 use mir.Val.{ofZ}
 use Rattle.area.specs.Area.{IsBit, sizeAt}
-use Rattle.area.specs.AreaLaws.{bit-lt, bit-stored}
-use Rattle.words.specs.Xor.{xor-bits}
-use Rattle.code.specs.FirstOrder.{repeats}
-use Rattle.words.specs.Sum.{allBelow}
+use Rattle.area.specs.AreaLaws.{bit-stored, is-bit, xor-stored}
+use Rattle.code.specs.FirstOrder.{repeatsBelow, repeats}
 use Rattle.words.specs.SumLaws.{all-none, all-more}
 use Rattle.affine_test.proofs.repeats.Statement.{statement}
 use Rattle.affine_test.proofs.repeats.Tie as tie
-use Rattle.affine_test.proofs.repeats.Reads as reads
-use Rattle.affine_test.proofs.repeats.Lts as lts
-
-abbrev goesOn : List ℤ → ℕ → ℕ → Bool
-goesOn xs h i = eqb ((sizeAt xs i + sizeAt xs (h + i)) % 2) ((sizeAt xs 0 + sizeAt xs h) % 2)
 
 sum-is : {x y : ℤ} → IsBit x → IsBit y → bitXor (ofZ w32 x) (ofZ w32 y) ≡ (natAbs x + natAbs y) % 2
-sum-is bx by = ap₂ bitXor (bit-stored bx) (bit-stored by) ∙ xor-bits _ _ (bit-lt bx) (bit-lt by)
+sum-is bx by = xor-stored bx by ∙ bit-stored (is-bit _ (omega arith))
 
 abbrev Inv-loop : tie.InvT-loop
-Inv-loop h area t same₀ i₀ same i = (i ≤ h) × (same ≡ allBelow i (goesOn area h))
+Inv-loop h area t same₀ i₀ same i = (i ≤ h) × (same ≡ repeatsBelow (sizeAt area) h i)
 
 abbrev μ-loop : tie.MeasureT-loop
 μ-loop h area t same₀ i₀ same i = h - i
@@ -74,13 +66,13 @@ loop-again c =
     let i = c .before .before .loop-test .taken in
     let x = sum-is (b (l .i) (omega arith)) (b (s .args .h + l .i) (omega arith)) in
     let y = sum-is (b 0 (omega arith)) (b (s .args .h) (omega arith)) in
-    (omega arith, ap (λ (z : Bool). l .same && z) (ap₂ eqb x y) ∙ all-more (l .i) (goesOn (s .args .area .now) (s .args .h)) (l .same) (l .inv .1))
+    (omega arith, ap (λ (z : Bool). l .same && z) (ap₂ eqb x y) ∙ all-more (l .i) _ (l .same) (l .inv .1))
 
 returns : tie.Need-returns Inv-loop μ-loop
 unfolding repeats
 returns c =
     let a = c .before .before .before .before .args in
-    c .before .loop .inv .1 ∙ ap (λ (n : ℕ). allBelow n (goesOn (a .area .now) (a .h))) (omega arith)
+    c .before .loop .inv .1 ∙ ap (repeatsBelow (sizeAt (a .area .now)) (a .h)) (omega arith)
 
 pub repeats-spec : {M : Type 1} → statement M
 repeats-spec =

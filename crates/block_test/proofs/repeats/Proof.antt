@@ -4,8 +4,8 @@ use mathlib.Core.Path.{_≡_, refl, ap, _∙_}
 use native.Mathlib.Omega.{arith}
 use Rattle.words.specs.SumLaws.{all-none}
 use Rattle.words.specs.Word.{bit}
-use Rattle.code.specs.FirstOrder.{repeats}
-use Rattle.block_test.specs.BlockLaws.{repeatsBelow, xor-is, four-more}
+use Rattle.code.specs.FirstOrder.{repeatsBelow, repeats}
+use Rattle.block_test.specs.BlockLaws.{xor-is, four-more}
 use Rattle.block_test.proofs.repeats.Statement.{statement}
 use Rattle.block_test.proofs.repeats.Tie as tie
 
