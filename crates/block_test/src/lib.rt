@@ -18,17 +18,25 @@ fn four_at(word: &[u8], b: usize) -> u32
     x + 65536 * y
 }
 
-// Whether the places h to 2h - 1 are the first h with one bit added to all, four at a time.
+// Eight bits as one number, a byte each.
+fn eight_at(word: &[u8], b: usize) -> u64
+    requires { ⌜ (b + 8 ≤ length (now word)) × AreBits (bit (now word)) ⌝ }
+    ensures { λ x. ⌜ x ≡ packed 8 (λ i. bit (now (word .entry)) (b + i)) ⌝ }
+{
+    four_at(word, b) as u64 + 4294967296 * (four_at(word, b + 4) as u64)
+}
+
+// Whether the places h to 2h - 1 are the first h with one bit added to all, eight at a time.
 fn repeats(h: usize, word: &[u8]) -> bool
-    requires { ⌜ (h % 4 ≡ 0) × (0 < h) × (h + h ≤ length (now word)) × AreBits (bit (now word)) ⌝ }
+    requires { ⌜ (h % 8 ≡ 0) × (0 < h) × (h + h ≤ length (now word)) × AreBits (bit (now word)) ⌝ }
     ensures { λ b. ⌜ b ≡ repeats (bit (now (word .entry))) h ⌝ }
 {
-    let t = (word[0] ^ word[h]) as u32 * 16843009;
+    let t = (word[0] ^ word[h]) as u64 * 72340172838076673;
     let mut same = true;
     let mut i = 0;
     while i < h {
-        same = same & (four_at(word, i) ^ four_at(word, h + i) == t);
-        i += 4;
+        same = same & (eight_at(word, i) ^ eight_at(word, h + i) == t);
+        i += 8;
     }
     same
 }
@@ -38,12 +46,13 @@ fn first_levels(word: &[u8]) -> bool
     requires { ⌜ (8 ≤ length (now word)) × AreBits (bit (now word)) ⌝ }
     ensures { λ b. ⌜ b ≡ levelsTest 3 (bit (now (word .entry))) ⌝ }
 {
-    (word[1] ^ word[3] == word[0] ^ word[2]) & repeats(4, word)
+    let two = word[1] ^ word[3] == word[0] ^ word[2];
+    two & (four_at(word, 0) ^ four_at(word, 4) == (word[0] ^ word[4]) as u32 * 16843009)
 }
 
 // The levels from `first` on, where those below pass.
 fn levels_from(first: usize, m: usize, word: &[u8]) -> bool
-    requires { ⌜ (levelsTest first (bit (now word)) ≡ true) × (2 ≤ first) × (first ≤ m) × (m ≤ 10) × IsWord m (now word) ⌝ }
+    requires { ⌜ (levelsTest first (bit (now word)) ≡ true) × (3 ≤ first) × (first ≤ m) × (m ≤ 10) × IsWord m (now word) ⌝ }
     ensures { λ b. ⌜ b ≡ levelsTest m (bit (now (word .entry))) ⌝ }
 {
     let mut k = first;

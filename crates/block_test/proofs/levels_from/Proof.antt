@@ -8,12 +8,12 @@ use borrow.Author.Tests.{not-true, not-false}
 use lib.Pow.{pow-pos, pow-mono}
 use Rattle.words.specs.Word.{bit}
 use Rattle.code.specs.FirstOrder.{repeats, levelsTest, levels-next, levels-stop}
-use Rattle.block_test.specs.BlockLaws.{fours}
+use Rattle.block_test.specs.BlockLaws.{eights}
 use Rattle.block_test.proofs.levels_from.Statement.{statement}
 use Rattle.block_test.proofs.levels_from.Tie as tie
 
 abbrev Inv-loop : tie.InvT-loop
-Inv-loop first m word k₀ k = (2 ≤ k) × (k ≤ m) × (levelsTest k (bit word) ≡ true)
+Inv-loop first m word k₀ k = (3 ≤ k) × (k ≤ m) × (levelsTest k (bit word) ≡ true)
 
 abbrev μ-loop : tie.MeasureT-loop
 μ-loop first m word k₀ k = m - k
@@ -30,7 +30,7 @@ repeats-requires c κs =
     let s = c .before .before .before .before in
     let w = s .pre .4 in
     let room = pow-mono {i = suc (l .k)} {j = s .args .m} (c .before .loop-test .taken) in
-    rw (c .size .ensures) (fours (l .k) (l .inv .0), pow-pos (l .k), omega (arith, w .size, room), record { each = w .bits })
+    rw (c .size .ensures) (eights (l .k) (l .inv .0), pow-pos (l .k), omega (arith, w .size, room), record { each = w .bits })
 
 -- the answer for level k
 tested : (c : tie.After-repeats Inv-loop μ-loop) →

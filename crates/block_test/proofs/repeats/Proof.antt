@@ -2,15 +2,17 @@
 use Prim.Native.Nat.{_-_, _%_, _≤_}
 use mathlib.Core.Path.{_≡_, refl, ap, _∙_}
 use native.Mathlib.Omega.{arith}
+use Rattle.words.specs.Sum.{total}
 use Rattle.words.specs.SumLaws.{all-none}
+use Rattle.octets.specs.Octets.{packed}
 use Rattle.words.specs.Word.{bit}
 use Rattle.code.specs.FirstOrder.{repeatsBelow, repeats}
-use Rattle.block_test.specs.BlockLaws.{xor-is, four-more}
+use Rattle.block_test.specs.BlockLaws.{xor-is, places-more}
 use Rattle.block_test.proofs.repeats.Statement.{statement}
 use Rattle.block_test.proofs.repeats.Tie as tie
 
 abbrev Inv-loop : tie.InvT-loop
-Inv-loop h word t same₀ i₀ same i = (i % 4 ≡ 0) × (i ≤ h) × (same ≡ repeatsBelow (bit word) h i)
+Inv-loop h word t same₀ i₀ same i = (i % 8 ≡ 0) × (i ≤ h) × (same ≡ repeatsBelow (bit word) h i)
 
 abbrev μ-loop : tie.MeasureT-loop
 μ-loop h word t same₀ i₀ same i = h - i
@@ -30,14 +32,14 @@ mul-t c = let s = c .before .before .before in omega (arith, xor-is (s .pre .3) 
 loop-holds : tie.Need-loop-holds Inv-loop μ-loop
 loop-holds c = (refl, omega arith, all-none _)
 
-four-at-requires : tie.Need-four-at-requires Inv-loop μ-loop
-four-at-requires c κs = (omega arith, c .before .before .before .before .before .pre .3)
+eight-at-requires : tie.Need-eight-at-requires Inv-loop μ-loop
+eight-at-requires c κs = (omega arith, c .before .before .before .before .before .pre .3)
 
-add-four-at : tie.Need-add-four-at Inv-loop μ-loop
-add-four-at c = omega arith
+add-eight-at : tie.Need-add-eight-at Inv-loop μ-loop
+add-eight-at c = omega arith
 
-four-at-requires-2 : tie.Need-four-at-requires-2 Inv-loop μ-loop
-four-at-requires-2 c κs = (omega arith, c .before .before .before .before .before .before .pre .3)
+eight-at-requires-2 : tie.Need-eight-at-requires-2 Inv-loop μ-loop
+eight-at-requires-2 c κs = (omega arith, c .before .before .before .before .before .before .pre .3)
 
 add-i : tie.Need-add-i Inv-loop μ-loop
 add-i c = omega arith
@@ -46,10 +48,11 @@ loop-less : tie.Need-loop-less Inv-loop μ-loop
 loop-less c = omega arith
 
 loop-again : tie.Need-loop-again Inv-loop μ-loop
+unfolding packed total
 loop-again c =
     let l = c .before .before .before .loop in
     let b = c .before .before .before .before .before .before .before .pre .3 in
-    (omega arith, omega arith, four-more b _ _ _ _ _ (c .before .four-at .ensures) (c .four-at2 .ensures) (l .inv .2))
+    (omega arith, omega arith, places-more b 8 _ _ _ _ _ (c .before .eight-at .ensures) (c .eight-at2 .ensures) (l .inv .2))
 
 returns : tie.Need-returns Inv-loop μ-loop
 unfolding repeats
@@ -68,9 +71,9 @@ repeats-spec =
     cast-t
     mul-t
     loop-holds
-    four-at-requires
-    add-four-at
-    four-at-requires-2
+    eight-at-requires
+    add-eight-at
+    eight-at-requires-2
     add-i
     loop-less
     loop-again

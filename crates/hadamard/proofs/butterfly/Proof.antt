@@ -9,8 +9,6 @@ use Rattle.area.specs.Numbers.{Half, sum-fits, difference-fits}
 use Rattle.hadamard.specs.Transform.{sums, pair-first, pair-second, pair-summed}
 use Rattle.hadamard.proofs.butterfly.Statement.{statement}
 use Rattle.hadamard.proofs.butterfly.Tie as tie
-use Rattle.hadamard.proofs.butterfly.Reads as reads
-use Rattle.hadamard.proofs.butterfly.Lts as lts
 
 abbrev Inv-loop : tie.InvT-loop
 Inv-loop a₀ h i₀ a i = (i ≤ h) × PairsDone sums h i a₀ a
