@@ -5,7 +5,7 @@ use native.Mathlib.Decide.{decLt}
 use native.Mathlib.Omega.{arith}
 use mathlib.Core.Path.{_≡_, refl, sym, ap, subst, _∙_}
 use mathlib.Core.List.{List}
-use lib.ListN.{length, set}
+use lib.ListN.{length}
 use lib.IntN.{ℤ, pos, natAbs}
 use lib.Bits.{bitAnd, bitXor}
 use lib.Count.{ones}
@@ -15,7 +15,7 @@ use borrow.Rule.Slice.PartMut.{putMid}
 use Rattle.words.specs.Sum.{tabulate}
 use Rattle.words.specs.SumLaws.{length-tabulate, getD-tabulate, tabulate-ext, tabulate-getD}
 use Rattle.words.specs.Ones.{ones-block}
-use Rattle.words.specs.Written.{Written, written-four, written-run}
+use Rattle.words.specs.Written.{Written, written-run}
 use Rattle.area.specs.Area.{at, IsBit}
 use Rattle.area.specs.AreaLaws.{is-bit, bit-back, bits-xor}
 use Rattle.area.specs.Numbers.{stored}
@@ -37,25 +37,6 @@ module _ (k : ℕ) {t : ℤ} (e : t ≡ pos (k % 2)) where
   place-is b = xor-is b parity-bit ∙ ap pos (omega (arith, ap natAbs e))
 
 -- ---- bits repeated with a bit added
-
-module _ {i b : ℕ} {t : ℤ} {a : List ℤ} (asks : Repeats 4 i b t a) where
-  -- the sum with the number at place q, as the code computes it
-  abbrev new : ℕ → ℤ
-  new q = toZ w32 (bitXor (ofZ w32 (at a q)) (ofZ w32 t))
-
-  new-is : (j q : ℕ) → j < 4 → q ≡ i + j → new q ≡ repeated t i a j
-  new-is j q l e = rw e (bits-xor (asks .bits j l) (asks .added))
-
-  -- the four sums written from place b on
-  pub four-repeated :
-      Written (pos 0) b 4 (repeated t i a) a
-      (set (set (set (set a b (new i)) (b + 1) (new (i + 1))) (b + 2) (new (i + 2))) (b + 3) (new (i + 3)))
-  four-repeated =
-      written-four b refl (asks .room)
-      (new-is 0 i (omega arith) (omega arith))
-      (new-is 1 (i + 1) (omega arith) refl)
-      (new-is 2 (i + 2) (omega arith) refl)
-      (new-is 3 (i + 3) (omega arith) refl)
 
 -- the places in two halves, one after the other
 module _ (h : ℕ) {i b : ℕ} {t : ℤ} {a : List ℤ} (asks : Repeats (h + h) i b t a) where

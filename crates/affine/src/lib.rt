@@ -38,10 +38,7 @@ fn repeat_four(a: &mut [i32], i: usize, b: usize, t: i32)
     let x1 = a[i + 1] ^ t;
     let x2 = a[i + 2] ^ t;
     let x3 = a[i + 3] ^ t;
-    a[b] = x0;
-    a[b + 1] = x1;
-    a[b + 2] = x2;
-    a[b + 3] = x3;
+    area::put_four(a, b, x0, x1, x2, x3);
 }
 
 // Eight places from b on: those from i on with the bit t added.
