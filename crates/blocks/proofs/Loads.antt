@@ -5,9 +5,8 @@ use mathlib.Core.Logic.{⊎-elim}
 use mathlib.Core.List.{List, _++_, append-nil}
 use native.Mathlib.Nat.{add-zero, mul-le-mul-right}
 use native.Mathlib.Omega.{arith}
-use lib.Dec.{T, ltb, lit<}
 use lib.IntN.{ℤ, pos, natAbs}
-use lib.ListN.{length, take, drop, set, drop-of-length-le, List·getD-eq-default}
+use lib.ListN.{length, take, drop, drop-of-length-le, List·getD-eq-default}
 use lib.Pow.{pow-mono}
 use lib.Seq.{take-at}
 use borrow.Rule.Slice.PartMut.{putMid}
@@ -18,11 +17,11 @@ use Rattle.words.specs.ButterflyLaws.{length-halved}
 use Rattle.words.specs.Levels.{halved-keeps, transformed-blocks, whole-blocks}
 use Rattle.words.specs.Sum.{tabulate}
 use Rattle.words.specs.SumLaws.{getD-tabulate, le-or-lt, length-tabulate, tabulate-ext}
-use Rattle.words.specs.Written.{Written, written-eight}
+use Rattle.words.specs.Written.{Written, written-run}
 use Rattle.words.specs.Word.{bit}
-use Rattle.area.specs.Area.{at}
+use Rattle.area.specs.Area.{at, fourOf}
+use Rattle.area.specs.AreaLaws.{four-as}
 use Rattle.area.specs.Numbers.{stored, stored-eq}
-use Rattle.area.specs.Places.{Places, places}
 use Rattle.correlations.specs.Begun.{EightsDone}
 use Rattle.hadamard.specs.Correlation.{correlation}
 use Rattle.hadamard.specs.CorrelationLaws.{correlation-ext}
@@ -54,19 +53,6 @@ small-summable k f l small = record {
 
 -- ---- eight quads from place i on
 
--- the places that the code takes, of w bytes and n numbers
-pub record Rooms (w i n : ℕ) : Type 0 where
-  pub first : 4 * i + 4 ≤ w
-  pub word : (j : ℕ) → T (ltb j 8) → 4 * (i + j) + 4 ≤ w
-  pub area : Places i 8 n
-
-pub load-rooms : {w i n : ℕ} → 4 * i + 32 ≤ w → i + 8 ≤ n → n * 4 < 2 ^ 63 → Rooms w i n
-load-rooms many room small = record {
-  first = omega arith;
-  word = λ j t. omega (arith, lit< {m = j} {n = 8} t);
-  area = places small tt room;
-}
-
 abbrev eightAt : List ℕ → ℕ → ℕ → ℤ
 eightAt w i k = quadAt w (i + k)
 
@@ -76,12 +62,6 @@ transformedAt w i = halved sums 3 (tabulate 8 (eightAt w i))
 
 transformed-length : (w : List ℕ) (i : ℕ) → length (transformedAt w i) ≡ 8
 transformed-length w i = length-halved sums 3 (tabulate 8 (eightAt w i)) (length-tabulate 8 (eightAt w i))
-
--- eight numbers written in a row, as the code does it
-abbrev pub eightSet : List ℤ → ℕ → ℤ → ℤ → ℤ → ℤ → ℤ → ℤ → ℤ → ℤ → List ℤ
-eightSet xs i a b c d e f g h =
-    let ys : List ℤ = set (set (set (set xs i (stored a)) (i + 1) (stored b)) (i + 2) (stored c)) (i + 3) (stored d) in
-    set (set (set (set ys (i + 4) (stored e)) (i + 5) (stored f)) (i + 6) (stored g)) (i + 7) (stored h)
 
 -- ys is xs with the eight quads written
 abbrev pub EightWritten : List ℕ → ℕ → List ℤ → List ℤ → Type 0
@@ -95,11 +75,14 @@ module _ (w : List ℕ) (i : ℕ) (xs : List ℤ) (room : i + 8 ≤ length xs) w
   held {z} j e = stored-eq z (rw e (omega (arith, at-small w j))) ∙ e
 
   pub eight-written :
-      {a b c d e f g h : ℤ} → Quad i a → Quad (i + 1) b → Quad (i + 2) c → Quad (i + 3) d
-      → Quad (i + 4) e → Quad (i + 5) f → Quad (i + 6) g → Quad (i + 7) h → EightWritten w i xs (eightSet xs i a b c d e f g h)
-  eight-written ea eb ec ed ee ef eg eh =
-      written-eight room (rw (add-zero i) (held i ea)) (held (i + 1) eb) (held (i + 2) ec) (held (i + 3) ed)
-      (held (i + 4) ee) (held (i + 5) ef) (held (i + 6) eg) (held (i + 7) eh)
+      {a b c d e f g h : ℤ} {ys zs : List ℤ} → Quad i a → Quad (i + 1) b → Quad (i + 2) c → Quad (i + 3) d
+      → Quad (i + 4) e → Quad (i + 5) f → Quad (i + 6) g → Quad (i + 7) h
+      → Written (pos 0) i 4 (fourOf (stored a) (stored b) (stored c) (stored d)) xs ys
+      → Written (pos 0) (i + 4) 4 (fourOf (stored e) (stored f) (stored g) (stored h)) ys zs → EightWritten w i xs zs
+  eight-written ea eb ec ed ee ef eg eh u v =
+      written-run (four-as u (rw (add-zero i) (held i ea)) (held (i + 1) eb) (held (i + 2) ec) (held (i + 3) ed))
+      (four-as {f = λ (q : ℕ). eightAt w i (4 + q)} v (held (i + 4) ee) (held (i + 5) ef) (held (i + 6) eg) (held (i + 7) eh))
+      refl (λ q l. refl)
 
   -- lent to be transformed, and back
   module _ {ys : List ℤ} (v : EightWritten w i xs ys) where

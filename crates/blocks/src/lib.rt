@@ -25,14 +25,8 @@ fn load_eight(word: &[u8], i: usize, area: &mut [i32])
     let z5 = byte_quads::quad_at(word, i + 5);
     let z6 = byte_quads::quad_at(word, i + 6);
     let z7 = byte_quads::quad_at(word, i + 7);
-    area[i] = z0;
-    area[i + 1] = z1;
-    area[i + 2] = z2;
-    area[i + 3] = z3;
-    area[i + 4] = z4;
-    area[i + 5] = z5;
-    area[i + 6] = z6;
-    area[i + 7] = z7;
+    area::put_four(area, i, z0, z1, z2, z3);
+    area::put_four(area, i + 4, z4, z5, z6, z7);
     let e = i + 8;
     correlations::eight(&mut area[i..e]);
 }
