@@ -1,11 +1,7 @@
--- Places of a list of 32-bit numbers, as the code asks for them: a place and its bytes fit an index, and stores keep the length. Assumes nothing.
+-- Places of a list of 32-bit numbers, as the code asks for them: a place and its bytes fit an index. Assumes nothing.
 use Prim.Native.Nat.{ℕ, _+_, _*_, _^_, _≤_, _<_}
-use mathlib.Core.Path.{_≡_, refl, _∙_}
-use mathlib.Core.List.{List, [], _∷_}
 use native.Mathlib.Omega.{arith}
 use lib.Dec.{T, ltb, lit<}
-use lib.IntN.{ℤ}
-use lib.ListN.{length, set, length-set}
 use mir.Syntax.{w64}
 use mir.Val.{Fits}
 
@@ -38,19 +34,3 @@ module _ {n : ℕ} (small : n * 4 < 2 ^ 63) where
     within = l;
     each = λ j t. place (omega (arith, lit< {m = j} {n = k} t));
   }
-
--- numbers stored one after another, the last first
-abbrev pub sets : List ℤ → List (ℕ × ℤ) → List ℤ
-sets xs [] = xs
-sets xs (s ∷ ss) = set (sets xs ss) (s .0) (s .1)
-
-module _ (xs : List ℤ) where
-  sets-long : (ss : List (ℕ × ℤ)) → length (sets xs ss) ≡ length xs
-  sets-long [] = refl
-  sets-long (s ∷ ss) = length-set (sets xs ss) (s .0) (s .1) ∙ sets-long ss
-
-  pub below-sets : (ss : List (ℕ × ℤ)) {j : ℕ} → j < length xs → j < length (sets xs ss)
-  below-sets ss l = rw (sets-long ss) l
-
-  pub fits-sets : (ss : List (ℕ × ℤ)) {j : ℕ} → j ≤ length xs → j ≤ length (sets xs ss)
-  fits-sets ss l = rw (sets-long ss) l

@@ -68,19 +68,19 @@ module _ {A : Type 0} {d : A} {a n : ℕ} {f : ℕ → A} {xs ys : List A} (w : 
   pub written-to : (k : ℕ) → n ≡ k → Written d a k f xs ys
   written-to k e = subst (λ (j : ℕ). Written d a j f xs ys) e w
 
--- four entries in a row, from b on, which is a
+-- four entries in a row
 pub written-four :
-    {A : Type 0} {d : A} {a : ℕ} {f : ℕ → A} {xs : List A} (b : ℕ) {s t u v : A} → b ≡ a → a + 4 ≤ length xs
+    {A : Type 0} {d : A} {a : ℕ} {f : ℕ → A} {xs : List A} {s t u v : A} → a + 4 ≤ length xs
     → s ≡ f 0 → t ≡ f 1 → u ≡ f 2 → v ≡ f 3
-    → Written d a 4 f xs (set (set (set (set xs b s) (b + 1) t) (b + 2) u) (b + 3) v)
-written-four {d = d} {a = a} {f = f} {xs = xs} b e room es et eu ev =
+    → Written d a 4 f xs (set (set (set (set xs a s) (a + 1) t) (a + 2) u) (a + 3) v)
+written-four {d = d} {a = a} {f = f} {xs = xs} room es et eu ev =
     written-more
     (written-more
     (written-more
-    (written-more (written-none d a f xs) b _ (omega arith) (omega arith) es)
-    (b + 1) _ (omega arith) (omega arith) et)
-    (b + 2) _ (omega arith) (omega arith) eu)
-    (b + 3) _ (omega arith) (omega arith) ev
+    (written-more (written-none d a f xs) a _ (omega arith) (omega arith) es)
+    (a + 1) _ refl (omega arith) et)
+    (a + 2) _ refl (omega arith) eu)
+    (a + 3) _ refl (omega arith) ev
 
 -- eight entries in a row
 pub written-eight :
@@ -92,7 +92,7 @@ written-eight {a = a} room er es et eu ev ex ey ez =
     written-more
     (written-more
     (written-more
-    (written-more (written-four a refl (omega arith) er es et eu)
+    (written-more (written-four (omega arith) er es et eu)
     (a + 4) _ refl (omega arith) ev)
     (a + 5) _ refl (omega arith) ex)
     (a + 6) _ refl (omega arith) ey)
