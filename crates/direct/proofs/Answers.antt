@@ -46,9 +46,6 @@ module _ {m : ℕ} {word out : List ℕ} {area : List ℤ} (r : Readable m word 
     room = omega (arith, r .room, places);
   }
 
-  pub quads-room : 2 ^ (m - 2) ≤ length area
-  quads-room = as-block .room
-
   -- the area's first q numbers, after the transform
   module _ (q : ℕ) (ys : List ℤ) (eq : q ≡ 2 ^ (m - 2)) (e : take (2 ^ (m - 2)) ys ≡ tabulate (2 ^ (m - 2)) (correlation (m - 2) (quadAt word))) where
     quads-are : BlockQuads (m - 2) word (take (q - 0) ys)

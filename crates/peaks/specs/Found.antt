@@ -46,13 +46,12 @@ module _ {n : ℕ} {c : ℕ → ℤ} {p : Peak} (k : IsPeak n c p) (e : p .alone
 
 -- ---- the greatest size of h pairs, and its key
 
-pub record Searched (h : ℕ) (x y : ℕ → ℤ) (g : ℤ) (key : ℕ) : Type 0 where
+pub record Searched (h : ℕ) (x y : ℕ → ℤ) (key : ℕ) : Type 0 where
   pub some : 0 < h
   pub few : h ≤ 512
-  pub greatest : g ≡ pos (greatestBelow h (sizes x y))
   pub keys : key ≡ keysBelow h (sizes x y) (greatestBelow h (sizes x y))
 
-module _ {h : ℕ} {x y : ℕ → ℤ} {g : ℤ} {key : ℕ} (t : Searched h x y g key) where
+module _ {h : ℕ} {x y : ℕ → ℤ} {key : ℕ} (t : Searched h x y key) where
   pub searched-many : {p : Peak} → 131071 < key → p .alone ≡ false → IsPeak (h + h) (joined h x y) p
   searched-many l ea = no-peak (h + h) (joined h x y) (pairs-share (joined-layout h x y) (⊎-elim
       (λ a. absurd (omega (arith, t .keys, t .few, keys-alone a, a .below)))
@@ -114,11 +113,10 @@ module _ {h : ℕ} {x y : ℕ → ℤ} {zs : List ℤ} (few : h ≤ 512) (s : He
 
   pub held-searched :
       {g : ℤ} {key : ℕ} → 0 < h → g ≡ pos (greatestBelow (length zs) (sizeAt zs))
-      → key ≡ keysBelow (length zs) (sizeAt zs) (natAbs g) → Searched h x y g key
+      → key ≡ keysBelow (length zs) (sizeAt zs) (natAbs g) → Searched h x y key
   held-searched some eg ek = record {
     some = some;
     few = few;
-    greatest = eg ∙ ap pos best;
     keys = ek ∙ ap₂ (λ (n b : ℕ). keysBelow n (sizeAt zs) b) (s .long) (ap natAbs eg ∙ best) ∙ keys-ext h _ _ _ same;
   }
     where

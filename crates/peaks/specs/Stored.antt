@@ -6,7 +6,7 @@ use native.Mathlib.Omega.{arith}
 use lib.Dec.{T, eqb}
 use lib.IntN.{ℤ, pos, negsuc, negℤ, natAbs, _+ℤ_, _-ℤ_}
 use lib.Signed.{mag, nonNeg}
-use mir.Syntax.{w32, w64}
+use mir.Syntax.{w32}
 use mir.Val.{Fits, SFits, toZ, ofZ}
 use mir.Facts.{toZ-ofZ, toZ-pos}
 use borrow.Author.Tests.{eq-eqb, ne-eqb}
@@ -73,9 +73,6 @@ module _ {g : ℤ} {n : ℕ} (e : g ≡ pos n) (l : mag g < 2 ^ 31) where
 
   pub size-whole : stored g ≡ pos (natAbs (stored g))
   size-whole = size-read ∙ ap (λ (z : ℤ). pos (natAbs z)) (sym size-read)
-
-  pub size-casts : T (nonNeg (stored g)) × Fits w64 (natAbs (stored g))
-  size-casts = rw size-read (tt, record { fits = omega (arith, ap mag e) })
 
 pub peak-as : {a b : ℕ} {x x′ y y′ : ℤ} {p : Peak} → x ≡ x′ → y ≡ y′ → PeakAt a b x y p → PeakAt a b x′ y′ p
 peak-as ex ey k = rw (← ex, ← ey) k

@@ -2,10 +2,10 @@
 use Prim.Native.Nat.{ℕ, _+_, _-_, _≤_, _<_}
 use native.Mathlib.Decide.{decLt}
 use native.Mathlib.Omega.{arith}
-use mathlib.Core.Path.{_≡_, sym, ap, ap₂, subst, _∙_}
-use mathlib.Core.List.{List, [], _++_, append-nil}
-use lib.ListN.{length, getD, take, drop, length-append, length-drop, List·getD-append}
-use lib.Seq.{getD-take, getD-drop, length-take-le, getD-append-add, take-at, drop-at, take-all, drop-length}
+use mathlib.Core.Path.{_≡_, sym, ap, subst, _∙_}
+use mathlib.Core.List.{List, _++_}
+use lib.ListN.{length, getD, take, drop, length-drop, List·getD-append}
+use lib.Seq.{getD-take, getD-drop, length-take-le, getD-append-add, take-at, drop-at}
 use borrow.Rule.Slice.PartMut.{putMid, same-len-mid}
 use Rattle.words.specs.Written.{Written}
 
@@ -40,24 +40,6 @@ module _ {A : Type 0} (d : A) (a k : ℕ) (xs : List A) (room : a + k ≤ length
 -- the first n entries, as the code takes `[0..n]`
 pub front-length : {A : Type 0} (n : ℕ) (xs : List A) → n ≤ length xs → length (take (n - 0) (drop 0 xs)) ≡ n
 front-length n xs l = length-take-le (n - 0) (drop 0 xs) (simp length-drop (omega arith)) ∙ omega arith
-
--- the rest of a list after its first h entries, which came back as a
-module _ {A : Type 0} (h : ℕ) (a v : List A) (ea : length a ≡ h) where
-  -- as a callee is lent it
-  pub lent-second : take (length (a ++ v) - h) (drop h (a ++ v)) ≡ v
-  lent-second = rw (drop-at a v h ea) (take-all (length (a ++ v) - h) v (omega (arith, length-append a v)))
-
-  -- the whole once it has come back as b
-  pub back-second : (b : List A) → length b ≡ length v → putMid h (length (a ++ v) - h) (a ++ v) b ≡ a ++ b
-  back-second b e =
-      ap₂ (λ (x y : List A). x ++ (b ++ y)) (take-at a v h ea) (ap (drop (length (a ++ v) - h)) (drop-at a v h ea) ∙ nothing)
-      ∙ ap (λ (y : List A). a ++ y) (append-nil b)
-    where
-      n : length (a ++ v) - h ≡ length v
-      n = omega (arith, length-append a v)
-
-      nothing : drop (length (a ++ v) - h) v ≡ []
-      nothing = rw n (drop-length v)
 
 -- ---- a run written part by part
 

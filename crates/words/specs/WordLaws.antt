@@ -1,6 +1,6 @@
 -- Laws of words and their sums. Assumes nothing.
 use Prim.Native.Nat.{ℕ, zero, suc, _+_, _%_, _^_, _<_}
-use mathlib.Core.Path.{_≡_, refl, sym, ap, ap₂, _∙_}
+use mathlib.Core.Path.{_≡_, refl, sym, ap, _∙_}
 use mathlib.Core.Bool.{Bool, true, false}
 use mathlib.Core.List.{List, [], _∷_}
 use native.Mathlib.Decide.{decLt}
@@ -8,9 +8,9 @@ use native.Mathlib.Nat.{mod-add-mod, add-mod-mod, add-assoc, add-comm, add-left-
 use native.Mathlib.Omega.{arith}
 use lib.ListN.{length, List·getD-eq-default}
 use lib.Seq.{ext-getD}
-use Rattle.words.specs.Sum.{sumBelow, tabulate}
-use Rattle.words.specs.SumLaws.{sum-ext, length-tabulate, bit-tabulate}
-use Rattle.words.specs.Word.{bit, indicator, IsWord, addWords, distance}
+use Rattle.words.specs.Sum.{tabulate}
+use Rattle.words.specs.SumLaws.{length-tabulate, bit-tabulate}
+use Rattle.words.specs.Word.{bit, indicator, IsWord, addWords}
 
 -- omega gives up on nested remainders: strip them first, then sort the sum
 pub ruleset unmod = (mod-add-mod, add-mod-mod)
@@ -72,10 +72,3 @@ module _ {m : ℕ} where
   add-cancel hu hv =
       word-ext hv (word-add hu (word-add hu hv))
       (λ p l. omega (arith, word-bit hu hv p, word-bit hu (word-add hu hv) p, hv .bits p))
-
--- ---- distance
-
--- adding a word to both of two moves neither nearer
-pub distance-add : {m : ℕ} {w d c : List ℕ} → IsWord m w → IsWord m d → IsWord m c → distance m (addWords w c) (addWords d c) ≡ distance m w d
-unfolding distance
-distance-add {m} hw hd hc = sum-ext (2 ^ m) _ _ (λ p l. omega (arith, word-bit hw hc p, word-bit hd hc p))

@@ -48,18 +48,6 @@ module _ {A : Type 0} {d : A} {a n : ℕ} {f : ℕ → A} {xs ys : List A} (w : 
     above = λ p l. v .above p (omega arith) ∙ w .above p (omega arith);
   }
 
-  -- a turn leaves entry n, which is already right
-  pub written-skip : getD xs (a + n) d ≡ f n → Written d a (n + 1) f xs ys
-  written-skip e = record {
-    long = w .long;
-    within = λ p lp. elim (ℕ-discrete p n) [
-      | yes q ↦ rw q (w .above (a + n) (omega arith) ∙ e)
-      | no k ↦ w .within p (omega arith)
-    ];
-    below = w .below;
-    above = λ p lp. w .above p (omega arith);
-  }
-
   -- the same run by another rule
   pub written-as : (g : ℕ → A) → ((p : ℕ) → p < n → f p ≡ g p) → Written d a n g xs ys
   written-as g h = record { long = w .long; within = λ p l. w .within p l ∙ h p l; below = w .below; above = w .above }

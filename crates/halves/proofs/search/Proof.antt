@@ -43,8 +43,8 @@ abbrev sized : tie.After-keys → tie.After-pair-sizes
 sized c = c .before .before .before .before .before .before .before
 
 -- the greatest and its key
-told : (c : tie.After-keys) → let g = c .before .before .before in let a = g .before .before .before .before .before .before .args in
-    Searched (a .h) (λ i. firstOf (at (a .part .now) i)) (λ i. secondOf (at (a .part .now) i)) (g .greatest .result) (c .keys .result)
+told : (c : tie.After-keys) → let a = sized c .before .before .args in
+    Searched (a .h) (λ i. firstOf (at (a .part .now) i)) (λ i. secondOf (at (a .part .now) i)) (c .keys .result)
 told c =
     let g = c .before .before .before in
     let p = g .before .before .before .before in

@@ -75,7 +75,7 @@ abbrev sized : tie.After-keys → tie.After-sizes
 sized c = c .before .before .before .before .before .before .before
 
 told : (c : tie.After-keys) → let s = sized c in let q = number s in
-    Searched (q + q) (firsts q (old s)) (lasts q (old s)) (c .before .before .before .greatest .result) (c .keys .result)
+    Searched (q + q) (firsts q (old s)) (lasts q (old s)) (c .keys .result)
 told c =
     let g = c .before .before .before in
     let s = sized c in
