@@ -34,7 +34,7 @@ levelsTest (suc m) f = levelsTest m f && repeats f (2 ^ m)
 true-both : (a b : Bool) → a ≡ true → b ≡ true → a && b ≡ true
 true-both a b ea eb = rw (ea, eb) refl
 
--- "a codeword exactly when its first half is one of the same order and the sum of its halves one of order r"
+-- a codeword exactly when its first half is one of the same order and the sum of its halves one of an order less
 module _ (m : ℕ) (w : List ℕ) (hw : IsWord (suc m) w) where
   pub test-halves : (r : ℕ) → codewordTest m (suc r) (firstHalf m w) && codewordTest m r (sumHalves m w) ≡ codewordTest (suc m) (suc r) w
   test-halves r =
