@@ -30,7 +30,7 @@ fn first_levels(area: &[i32]) -> bool
     repeats(1, area) & repeats(2, area) & repeats(4, area)
 }
 
-// The levels from one on whose places pass.
+// The levels from `first` on, where those below pass.
 fn levels_from(first: usize, m: usize, area: &[i32]) -> bool
     requires { ⌜ (first ≤ m) × (m ≤ 10) × Bits (2 ^ m) (now area) ⌝ }
     requires { ⌜ levelsTest first (sizeAt (now area)) ≡ true ⌝ }
