@@ -1,4 +1,4 @@
-/* The calls of the core for C: link target/staticlib/libharness.a, which `rt staticlib harness` builds.
+/* The calls of the core for C and C++: link target/staticlib/libharness.a, which `rt staticlib harness` builds.
  *
  * A slice is a pointer and a length. No contract can check these, so the caller keeps to them:
  *   - no pointer is null, also where its length is 0;
@@ -6,8 +6,22 @@
  *   - an output or an area overlaps no other buffer of the call.
  * Everything else may be anything: any sizes, limits and contents get a result or one numbered refusal, and a refusal leaves the output as it was.
  *
- * Each answer is packed in 64 bits, lowest first: refusal or 0 in 8, rounds in 8, leaf count in 24, mended places in 12 (0 for now),
- * the place named by refusal 8 in 12.
+ * Words and messages have one byte for each bit, 0 or 1. With n = 2^m and k the sum of the binomials of m over 0 to r, the lengths asked are
+ *
+ *   call                 input        output   area
+ *   rm_encode            k, message   n
+ *   rm_read_message      n, word      k
+ *   rm_is_codeword       n, word
+ *   rm_decode            n, word      n        8 n or more
+ *   rm_decode_profile    n, word      n        8 n or more
+ *
+ *   profile     0     1     2     3     4
+ *   m, r      5,1   6,2   7,2   8,2   8,3
+ *   n          32    64   128   256   256
+ *   k           6    22    29    37    93
+ *   8 n       256   512  1024  2048  2048
+ *
+ * The area may hold anything before a call. It is as it was after refusals 1 to 8 and 14, and all zero after every other answer.
  */
 #ifndef FEZQALYR_HARNESS_H
 #define FEZQALYR_HARNESS_H
@@ -15,11 +29,72 @@
 #include <stddef.h>
 #include <stdint.h>
 
+#ifdef __cplusplus
+extern "C" {
+#endif
+
+/* The lengths that are enough for every m. */
+enum rm_most {
+    RM_MOST_PLACES = 1024,
+    RM_MOST_AREA = 8192
+};
+
+/* Refusals by number, in the order of checking, except that 12 comes before 9, 10 and 11. */
+enum rm_refusals {
+    RM_ACCEPTED = 0,
+    /* the calling program's */
+    RM_EXPONENT = 1,        /* m outside 1 to 10 */
+    RM_ORDER = 2,           /* r above m */
+    RM_ROUND_LIMIT = 3,     /* outside 1 to 16 */
+    RM_LEAF_LIMIT = 4,      /* outside 1 to 1,000,000 */
+    RM_INPUT_LENGTH = 5,
+    RM_OUTPUT_LENGTH = 6,
+    RM_AREA_LENGTH = 7,
+    /* of whoever made the bytes */
+    RM_BAD_BYTE = 8,        /* a byte above 1; the answer names its place */
+    /* the noise's */
+    RM_TIE = 9,             /* two codewords are equally near */
+    RM_FLIPPING = 10,       /* places still flip at the round limit */
+    RM_UNSETTLED = 11,      /* the block settled on no codeword */
+    RM_TOO_MANY_LEAVES = 12, /* the leaf limit is too small; no profile can meet it */
+    RM_NOT_CODEWORD = 13,   /* the message reader's word is none */
+    RM_PROFILE = 14,        /* above 4; tested first, in place of 1 to 4 */
+    /* in listings alone */
+    RM_HEADER = 15,
+    RM_TRUNCATED = 16
+};
+
+/* An answer has five numbers, lowest first: refusal or 0 in 8 bits, rounds in 8, leaf count in 24, mended places in 12, place in 12. */
+
+/* One of the refusals, or 0. */
+static inline unsigned rm_refusal(uint64_t answer) {
+    return (unsigned)(answer & 255);
+}
+
+/* The rounds made by a decoding; of rm_is_codeword 1 where the word is a codeword. */
+static inline unsigned rm_rounds(uint64_t answer) {
+    return (unsigned)(answer >> 8 & 255);
+}
+
+/* The readings at order 1, of all rounds and every depth. */
+static inline uint32_t rm_leaves(uint64_t answer) {
+    return (uint32_t)(answer >> 16 & 16777215);
+}
+
+/* The places where the decoded word differs from the one received; 0 for now. */
+static inline unsigned rm_mended(uint64_t answer) {
+    return (unsigned)(answer >> 40 & 4095);
+}
+
+/* With refusal 8, a place of the input that holds a byte above 1. */
+static inline unsigned rm_place(uint64_t answer) {
+    return (unsigned)(answer >> 52);
+}
+
 uint64_t rm_encode(size_t m, size_t r, const uint8_t *message, size_t message_len, uint8_t *out, size_t out_len);
 
 uint64_t rm_read_message(size_t m, size_t r, const uint8_t *word, size_t word_len, uint8_t *out, size_t out_len);
 
-/* 1 in the rounds where the word is a codeword. */
 uint64_t rm_is_codeword(size_t m, size_t r, const uint8_t *word, size_t word_len);
 
 uint64_t rm_decode(size_t m, size_t r, size_t rounds, size_t leaves, const uint8_t *word, size_t word_len,
@@ -27,5 +102,9 @@ uint64_t rm_decode(size_t m, size_t r, size_t rounds, size_t leaves, const uint8
 
 uint64_t rm_decode_profile(size_t profile, const uint8_t *word, size_t word_len,
                            uint8_t *out, size_t out_len, int32_t *area, size_t area_len);
+
+#ifdef __cplusplus
+}
+#endif
 
 #endif

@@ -1,0 +1,143 @@
+/* Document 01's meter bench values, called from C: ends with 0 only where every one of them holds. It is C++ as well.
+ *
+ *   rt staticlib harness && cc -Iinclude samples/bench_values.c target/staticlib/libharness.a -o target/bench_values && target/bench_values
+ */
+#include <stdio.h>
+#include <string.h>
+
+#include "harness.h"
+
+#define LEAVES 1000000
+
+static int failures = 0;
+static uint8_t out[RM_MOST_PLACES];
+static int32_t area[RM_MOST_AREA];
+
+static void expect(int holds, const char *name, const char *what) {
+    if (!holds) {
+        printf("%s: %s is wrong\n", name, what);
+        failures++;
+    }
+}
+
+/* The digits of a text as bytes; their number. */
+static size_t bits(const char *text, uint8_t *bytes) {
+    size_t i, length = strlen(text);
+    for (i = 0; i < length; i++) bytes[i] = (uint8_t)(text[i] - '0');
+    return length;
+}
+
+/* Both buffers hold a pattern before a call. */
+static void filled(void) {
+    size_t i;
+    memset(out, 7, sizeof out);
+    for (i = 0; i < RM_MOST_AREA; i++) area[i] = 5;
+}
+
+/* Whether the output is the text; without a text, whether it is as it was. */
+static int output_is(const char *text, size_t length) {
+    size_t i;
+    for (i = 0; i < length; i++)
+        if (out[i] != (text ? text[i] - '0' : 7)) return 0;
+    return 1;
+}
+
+static int area_is(int32_t number, size_t length) {
+    size_t i;
+    for (i = 0; i < length; i++)
+        if (area[i] != number) return 0;
+    return 1;
+}
+
+/* A decoded word is a text where the block is accepted, else none. */
+static void decodes(const char *name, size_t m, size_t r, size_t rounds, size_t leaves, const char *block,
+                    unsigned refusal, unsigned made, uint32_t counted, const char *decoded) {
+    uint8_t word[RM_MOST_PLACES];
+    size_t n = bits(block, word);
+    uint64_t answer;
+    filled();
+    answer = rm_decode(m, r, rounds, leaves, word, n, out, n, area, 8 * n);
+    expect(rm_refusal(answer) == refusal, name, "the refusal");
+    expect(rm_rounds(answer) == made, name, "the rounds");
+    expect(rm_leaves(answer) == counted, name, "the leaf count");
+    expect(refusal == 0 || rm_mended(answer) == 0, name, "the number of mended places");
+    expect(rm_place(answer) == 0, name, "the place");
+    expect(output_is(decoded, n), name, "the output");
+    expect(area_is(refusal == RM_EXPONENT ? 5 : 0, 8 * n), name, "the area");
+}
+
+/* A message encoded, tested, and read again. */
+static void encodes(const char *name, size_t m, size_t r, const char *text, const char *codeword) {
+    uint8_t message[RM_MOST_PLACES], word[RM_MOST_PLACES];
+    size_t k = bits(text, message), n = bits(codeword, word);
+    filled();
+    expect(rm_encode(m, r, message, k, out, n) == 0 && output_is(codeword, n), name, "the codeword");
+    expect(rm_rounds(rm_is_codeword(m, r, word, n)) == 1, name, "the codeword test");
+    filled();
+    expect(rm_read_message(m, r, word, n, out, k) == 0 && output_is(text, k), name, "the message read");
+}
+
+static void orders_0_and_1(void) {
+    decodes("m 1, r 1: 01", 1, 1, 4, LEAVES, "01", 0, 0, 1, "01");
+    decodes("m 2, r 1: 1000", 2, 1, 4, LEAVES, "1000", RM_TIE, 0, 1, NULL);
+    decodes("m 2, r 0: 0111", 2, 0, 4, LEAVES, "0111", 0, 0, 0, "1111");
+    decodes("m 2, r 0: 0011", 2, 0, 4, LEAVES, "0011", RM_TIE, 0, 0, NULL);
+    decodes("m 0", 0, 0, 4, LEAVES, "0", RM_EXPONENT, 0, 0, NULL);
+    decodes("m 11", 11, 2, 4, LEAVES, "0", RM_EXPONENT, 0, 0, NULL);
+}
+
+static void order_2(void) {
+    const char *one = "1000000000000000", *none = "0000000000000000";
+    char any[5] = "0000";
+    unsigned x;
+    for (x = 0; x < 16; x++) {
+        size_t p;
+        for (p = 0; p < 4; p++) any[p] = (char)('0' + (x >> p & 1));
+        decodes("m 2, r 2: any word", 2, 2, 4, LEAVES, any, 0, 1, 3, any);
+    }
+    decodes("m 3, r 2: 10000000", 3, 2, 4, LEAVES, "10000000", RM_UNSETTLED, 1, 7, NULL);
+    decodes("the same, leaf limit 7", 3, 2, 4, 7, "10000000", RM_UNSETTLED, 1, 7, NULL);
+    decodes("the same, leaf limit 6", 3, 2, 4, 6, "10000000", RM_TOO_MANY_LEAVES, 0, 6, NULL);
+    decodes("m 4, r 2, place 0 wrong, round limit 2", 4, 2, 2, LEAVES, one, 0, 2, 30, none);
+    decodes("the same, leaf limit 29", 4, 2, 2, 29, one, RM_TOO_MANY_LEAVES, 0, 29, NULL);
+    decodes("round limit 1, leaf limit 15", 4, 2, 1, 15, one, RM_FLIPPING, 1, 15, NULL);
+    decodes("round limit 1, leaf limit 14", 4, 2, 1, 14, one, RM_TOO_MANY_LEAVES, 0, 14, NULL);
+    decodes("the block plus a codeword", 4, 2, 2, LEAVES, "1001000100010001", 0, 2, 30, "0001000100010001");
+    decodes("m 4, r 2, places 0 and 1 wrong", 4, 2, 4, LEAVES, "1100000000000000", RM_UNSETTLED, 1, 15, NULL);
+}
+
+/* The two records of the example capture, profile 0: the message 84, and a tie. */
+static void example(void) {
+    uint8_t word[32], message[6];
+    size_t n = bits("01111111111111110000000000000000", word);
+    filled();
+    expect(rm_refusal(rm_decode_profile(0, word, n, out, n, area, 8 * n)) == 0, "the example", "the refusal");
+    memcpy(word, out, n);
+    expect(rm_read_message(5, 1, word, n, message, 6) == 0, "the example", "the message reader");
+    memcpy(out, message, 6);
+    expect(output_is("100001", 6), "the example", "the message");
+    bits("11111111000000000000000000000000", word);
+    expect(rm_refusal(rm_decode_profile(0, word, n, out, n, area, 8 * n)) == RM_TIE, "the example", "the tie");
+    expect(rm_decode_profile(5, word, n, out, n, area, 8 * n) == RM_PROFILE, "profile 5", "the refusal");
+}
+
+/* Each number of an answer by itself, and the place of a bad byte. */
+static void numbers(void) {
+    uint64_t answer = (uint64_t)12 | (uint64_t)5 << 8 | (uint64_t)1000000 << 16 | (uint64_t)1024 << 40 | (uint64_t)1023 << 52;
+    uint8_t word[4] = {0, 1, 0, 2};
+    expect(rm_refusal(answer) == 12 && rm_rounds(answer) == 5 && rm_leaves(answer) == 1000000, "unpacking", "a count");
+    expect(rm_mended(answer) == 1024 && rm_place(answer) == 1023, "unpacking", "a place");
+    answer = rm_is_codeword(2, 1, word, 4);
+    expect(rm_refusal(answer) == RM_BAD_BYTE && rm_place(answer) == 3, "a byte above 1", "the place");
+}
+
+int main(void) {
+    encodes("m 2, r 1: message 101", 2, 1, "101", "1100");
+    encodes("m 3, r 2: message 0001000", 3, 2, "0001000", "00010001");
+    orders_0_and_1();
+    order_2();
+    example();
+    numbers();
+    if (failures == 0) puts("the bench values hold");
+    return failures != 0;
+}
