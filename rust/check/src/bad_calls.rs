@@ -90,10 +90,17 @@ impl Chooser {
     }
 
     fn profile_call(&mut self) -> Call {
-        let good = self.random.below(4);
+        let good = self.random.below(5);
         let profile = self.number(good, &[5, 6, 8, 255, 256, 260, 1 << 32, usize::MAX]);
         let n = 1 << profiles::profile(profile).map_or(5, |p| p.m);
-        Call::DecodeProfile { profile, word: self.bytes_of(n), out: self.length(n), area: self.area(n) }
+        loop {
+            let (word, out, area) = (self.bytes_of(n), self.length(n), self.area(n));
+            // a block of profile 4 takes the second decoder long: here it comes with something wrong
+            let read = word.len() == n && out == n && area >= 8 * n && word.iter().all(|byte| *byte < 2);
+            if profile != 4 || !read {
+                return Call::DecodeProfile { profile, word, out, area };
+            }
+        }
     }
 }
 
@@ -125,6 +132,21 @@ pub fn each_bad_byte(c: &mut Comparison, m: usize) -> Result<(), Disagreement> {
         c.call(&Call::Encode { m, r: m, message: word, out: n })?;
     }
     Ok(())
+}
+
+/// For each profile a bad byte and lengths that are one off, alone and with all that is checked after them.
+pub fn each_profile(c: &mut Comparison, profile: usize) -> Result<(), Disagreement> {
+    let n = 1 << profiles::profile(profile).expect("a profile of the table").m;
+    let bad_byte = |length: usize| (0..length).map(|place| 2 * (place == n / 2) as u8).collect::<Vec<u8>>();
+    for off in [n - 1, n + 1] {
+        for (word, out, area) in
+            [(off, n, 8 * n), (off, n - 1, 0), (n, off, 8 * n), (n, off, 8 * n - 1), (n, n, 8 * n - 1)]
+        {
+            c.call(&Call::DecodeProfile { profile, word: vec![0; word], out, area })?;
+            c.call(&Call::DecodeProfile { profile, word: bad_byte(word), out, area })?;
+        }
+    }
+    c.call(&Call::decode_profile(profile, &bad_byte(n))).map(|_| ())
 }
 
 /// Lengths that are one off, at every exponent.

@@ -45,6 +45,7 @@ fn every_code_call(c: &mut Comparison) -> Result<(), Disagreement> {
 
 fn every_bad_call(c: &mut Comparison) -> Result<(), Disagreement> {
     bad_calls::many(c, 200, 20_000)?;
+    (0..5).try_for_each(|number| bad_calls::each_profile(c, number))?;
     (1..=10).try_for_each(|m| bad_calls::each_bad_byte(c, m))?;
     (1..=10).try_for_each(|m| [0, 1, m].iter().try_for_each(|r| bad_calls::each_length(c, m, *r)))
 }
