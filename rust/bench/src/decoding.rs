@@ -52,6 +52,10 @@ enum Noise {
     HalfRandom,
 }
 
+/// What the blocks of a race are, by name.
+const KINDS: [(&str, Noise); 3] =
+    [("clean", Noise::None), ("half the distance", Noise::HalfDistance), ("half random", Noise::HalfRandom)];
+
 fn block(random: &mut Random, p: Profile, noise: Noise) -> Vec<u8> {
     let n = 1 << p.m;
     let word = check::blocks::codeword(random, p.m, p.r);
@@ -63,26 +67,44 @@ fn block(random: &mut Random, p: Profile, noise: Noise) -> Vec<u8> {
     word.iter().zip(noise).map(|(a, b)| a ^ b).collect()
 }
 
-fn profile_race(number: usize, p: Profile, kind: &str, noise: Noise) -> Result<(), String> {
-    let mut random = Random::new(100 + number as u64);
-    let blocks = if number == 4 { 4 } else { 64 };
-    let blocks: Vec<Vec<u8>> = (0..blocks).map(|_| block(&mut random, p, noise)).collect();
-    let mut area = vec![0; 8 << p.m];
-    let (mut plain_work, mut packed_work) = (plain::Workspace::default(), Workspace::default());
-    let runners = vec![
-        library(p.m, |word, out| calls::decode_profile(number, word, out, &mut area)),
-        opponent("plain", p.m, |word, out| plain::decode_profile(number, word, out, &mut plain_work)),
-        opponent("packed", p.m, |word, out| opponent::decode_profile(number, word, out, &mut packed_work)),
-    ];
-    race(&format!("profile {number} (m {}, r {}), {kind}", p.m, p.r), runners, &blocks)
+/// The blocks of one race, and what they are raced under.
+pub struct Race {
+    number: usize,
+    profile: Profile,
+    kind: &'static str,
+    pub blocks: Vec<Vec<u8>>,
+}
+
+/// Each profile with each kind of blocks.
+pub const RACES: usize = 5 * KINDS.len();
+
+impl Race {
+    pub fn new(index: usize) -> Race {
+        let (number, (kind, noise)) = (index / KINDS.len(), KINDS[index % KINDS.len()]);
+        let profile = profile(number).expect("a profile of the table");
+        let mut random = Random::new(100 + number as u64);
+        let blocks = if number == 4 { 4 } else { 64 };
+        let blocks = (0..blocks).map(|_| block(&mut random, profile, noise)).collect();
+        Race { number, profile, kind, blocks }
+    }
+
+    pub fn title(&self) -> String {
+        format!("profile {} (m {}, r {}), {}", self.number, self.profile.m, self.profile.r, self.kind)
+    }
+
+    /// Hands over the runners, the library first.
+    pub fn with_runners<T>(&self, then: impl FnOnce(Vec<Box<dyn Runner + '_>>) -> T) -> T {
+        let (number, m) = (self.number, self.profile.m);
+        let mut area = vec![0; 8 << m];
+        let (mut plain_work, mut packed_work) = (plain::Workspace::default(), Workspace::default());
+        then(vec![
+            library(m, |word, out| calls::decode_profile(number, word, out, &mut area)),
+            opponent("plain", m, |word, out| plain::decode_profile(number, word, out, &mut plain_work)),
+            opponent("packed", m, |word, out| opponent::decode_profile(number, word, out, &mut packed_work)),
+        ])
+    }
 }
 
 pub fn races() -> Result<(), String> {
-    for number in 0..5 {
-        let p = profile(number).ok_or("there are five profiles")?;
-        profile_race(number, p, "clean", Noise::None)?;
-        profile_race(number, p, "half the distance", Noise::HalfDistance)?;
-        profile_race(number, p, "half random", Noise::HalfRandom)?;
-    }
-    Ok(())
+    (0..RACES).map(Race::new).try_for_each(|r| r.with_runners(|runners| race(&r.title(), runners, &r.blocks)))
 }

@@ -1,8 +1,9 @@
-//! Races of the library against the decoder written for speed, both in one run. The first argument says which:
-//! decode, codes, listing or all.
+//! Races of the library against the decoders written for speed, all in one run. The first argument says which:
+//! decode, codes, listing or all; or instructions, which counts them and takes no time.
 
 mod codes;
 mod decoding;
+mod instructions;
 mod listings;
 mod race;
 
@@ -15,7 +16,9 @@ fn main() -> ExitCode {
         "codes" => codes::races(),
         "listing" => listings::races(),
         "all" => decoding::races().and_then(|()| codes::races()).and_then(|()| listings::races()),
-        _ => Err(format!("no races are named {which}: decode, codes, listing or all")),
+        "instructions" => instructions::counts(),
+        instructions::PASSES => instructions::passes(std::env::args().skip(2)),
+        _ => Err(format!("no races are named {which}: decode, codes, listing, all or instructions")),
     };
     match raced {
         Ok(()) => ExitCode::SUCCESS,
