@@ -62,14 +62,17 @@ marked =
     ∷ decodes 3 2 4 6 (digits 8 10000000) (refused 12 0 6)
     ∷ []
 
--- those of exponent 4: only place 0 wrong, and the same block plus a codeword
+-- those of exponent 4: only place 0 wrong, and the same block plus a codeword. "Limits not named are 4 rounds and 1,000,000 leaves": a value
+-- that names no round limit stands under 4, and under the 2 of the sentence before it too
 unfoldable pub four : List Row
 four =
     decodes 4 2 2 1000000 (wrong 16) (accepted (zeros 16) 2 30)
     ∷ decodes 4 2 2 29 (wrong 16) (refused 12 0 29)
+    ∷ decodes 4 2 4 29 (wrong 16) (refused 12 0 29)
     ∷ decodes 4 2 1 15 (wrong 16) (refused 10 1 15)
     ∷ decodes 4 2 1 14 (wrong 16) (refused 12 0 14)
     ∷ decodes 4 2 2 1000000 (digits 16 1001000100010001) (accepted (digits 16 0001000100010001) 2 30)
+    ∷ decodes 4 2 4 1000000 (digits 16 1001000100010001) (accepted (digits 16 0001000100010001) 2 30)
     ∷ []
 
 -- m 2, r 2: any word accepted, rounds 1, leaf count 3
@@ -98,18 +101,26 @@ deep =
 unfoldable pub table : List Row
 table = (marked ++ sixteen ++ beside) ++ four ++ deep
 
--- the block plus a codeword, by covariance
-plus : reading 2 4 2 (digits 16 1001000100010001) ≡ accepted (digits 16 0001000100010001) 2 30
+-- the block plus a codeword, by covariance, under any round limit from 2 on
+plus : (left : ℕ) → reading 2 4 (suc (suc left)) (digits 16 1001000100010001) ≡ accepted (digits 16 0001000100010001) 2 30
 unfolding tabulate addWords codeword monomial rank spread total ones onesIn
-plus =
+plus left =
     let message : List ℕ = digits 11 00010000000 in
-    reading-add 2 4 2 (omega arith) (omega arith) (wrong 16) (codeword 4 2 message) (word-tabulate 4 (λ p. indicator (eqb p 0)) (λ p l. indicator-lt (eqb p 0)))
+    reading-add 2 4 (suc (suc left)) (omega arith) (omega arith) (wrong 16) (codeword 4 2 message) (word-tabulate 4 (λ p. indicator (eqb p 0)) (λ p l. indicator-lt (eqb p 0)))
     (encoder-codeword 4 2 message)
-    ∙ ap (shift (codeword 4 2 message)) (mended 0)
+    ∙ ap (shift (codeword 4 2 message)) (mended left)
 
 four-values : map valued four ≡ four
 unfolding four decodeOf after firstRefusal
-four-values = cc (ap (limited 1000000) (mended 0), ap (limited 29) (mended 0), ap (limited 15) stopped, ap (limited 14) stopped, ap (limited 1000000) plus)
+four-values = cc (
+  ap (limited 1000000) (mended 0),
+  ap (limited 29) (mended 0),
+  ap (limited 29) (mended 2),
+  ap (limited 15) stopped,
+  ap (limited 14) stopped,
+  ap (limited 1000000) (plus 0),
+  ap (limited 1000000) (plus 2),
+)
 
 deep-values : map valued deep ≡ deep
 unfolding deep decodeOf after firstRefusal

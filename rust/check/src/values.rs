@@ -65,15 +65,18 @@ fn bench_values_of_order_2() -> Vec<Value> {
     let at_4 = |rounds, leaves| Call::decode(4, 2, rounds, leaves, &wrong(4, &[0]));
     let codeword = bits("0001000100010001");
     let sum: Vec<u8> = codeword.iter().zip(wrong(4, &[0])).map(|(a, b)| a ^ b).collect();
+    let plus = |rounds| Call::decode(4, 2, rounds, MOST_LEAVES, &sum);
     vec![
         refused("m 3, r 2: 10000000 refused 11", at_3(MOST_LEAVES), (11, 1, 7)),
         refused("the same, leaf limit 7 suffices", at_3(7), (11, 1, 7)),
         refused("the same, leaf limit 6 gives 12", at_3(6), (12, 0, 6)),
         accepted("m 4, r 2, place 0 wrong, round limit 2", at_4(2, MOST_LEAVES), 2, 30, vec![0; 16]),
         refused("the same, leaf limit 29 gives 12", at_4(2, 29), (12, 0, 29)),
+        refused("the same, round limit 4", at_4(4, 29), (12, 0, 29)),
         refused("the same, round limit 1 gives 10 at leaf limit 15", at_4(1, 15), (10, 1, 15)),
         refused("the same, round limit 1 gives 12 at leaf limit 14", at_4(1, 14), (12, 0, 14)),
-        accepted("the same block plus 0001000100010001", Call::decode(4, 2, 2, MOST_LEAVES, &sum), 2, 30, codeword),
+        accepted("the same block plus 0001000100010001, round limit 2", plus(2), 2, 30, codeword.clone()),
+        accepted("the same, round limit 4", plus(4), 2, 30, codeword),
         refused("m 4, r 2, places 0 and 1 wrong: refused 11", decode(4, 2, &wrong(4, &[0, 1])), (11, 1, 15)),
     ]
 }

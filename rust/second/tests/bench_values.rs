@@ -63,11 +63,14 @@ fn order_2_at_m_4() {
     let word = wrong(4, &[0]);
     assert_eq!(decoded(4, 2, 2, MOST_LEAVES, &word), ((0, 2, 30), Some(vec![0; 16])));
     assert_eq!(decoded(4, 2, 2, 29, &word), ((12, 0, 29), None));
+    assert_eq!(decoded(4, 2, 4, 29, &word), ((12, 0, 29), None));
     assert_eq!(decoded(4, 2, 1, 15, &word), ((10, 1, 15), None));
     assert_eq!(decoded(4, 2, 1, 14, &word), ((12, 0, 14), None));
     let codeword = bits("0001000100010001");
     let sum: Vec<u8> = word.iter().zip(&codeword).map(|(a, b)| a ^ b).collect();
-    assert_eq!(decoded(4, 2, 2, MOST_LEAVES, &sum), ((0, 2, 30), Some(codeword)));
+    for rounds in [2, 4] {
+        assert_eq!(decoded(4, 2, rounds, MOST_LEAVES, &sum), ((0, 2, 30), Some(codeword.clone())));
+    }
     assert_eq!(decoded(4, 2, 4, MOST_LEAVES, &wrong(4, &[0, 1])), ((11, 1, 15), None));
 }
 
