@@ -3,6 +3,8 @@ use Prim.Native.Nat.{ℕ}
 use mathlib.Core.List.{List, [], _∷_, _++_}
 use lib.ListN.{replicate}
 use Rattle.text.specs.Numbers.{tenDigits, decimal, hexOf}
+use Rattle.refusals.specs.declared.Refusal.the-variants.{Header}
+use Rattle.refusals.specs.Refusals.{numberOf}
 use Rattle.code.specs.Code.{messageOf}
 use Rattle.profiles.specs.Profiles.{profileOf}
 use Rattle.rule.specs.Reading.{Outcome, accepted, refused}
@@ -46,4 +48,4 @@ lastLine records ok =
 
 -- "A capture with 15 prints only "file refused 15"."
 abbrev pub headerLine : List ℕ
-headerLine = (102 ∷ 105 ∷ 108 ∷ 101 ∷ []) ++ refusalText 15 ++ newline
+headerLine = (102 ∷ 105 ∷ 108 ∷ 101 ∷ []) ++ refusalText (numberOf Header) ++ newline

@@ -48,8 +48,9 @@ fn put_header(out: &mut [u8], at: usize) -> usize
     requires { ⌜ at + length headerLine ≤ length (now out) ⌝ }
     ensures { λ end. ⌜ Appended (now (out .entry)) at headerLine end (now (out .exit)) ⌝ }
 {
+    let number = refusals::number(Refusal::Header);
     let a = text::put_text(b"file", out, at);
-    let b = lines::put_refusal(15, out, a);
+    let b = lines::put_refusal(number, out, a);
     text::put_byte(10, out, b)
 }
 
