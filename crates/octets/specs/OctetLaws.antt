@@ -51,13 +51,13 @@ three-digits u i l =
 parities : (s a b c : ℕ) → ((s + a) % 2 + (b + c) % 2) % 2 ≡ (s + (a + (b + c))) % 2
 parities s a b c = omega arith
 
-pub first-bits :
+by-digits :
     (u s : ℕ) → s < 2
     → bitXor
     (bitXor (s * 72340172838076673) (u % 2 * 72058693566333184))
     (bitXor (u / 2 % 2 * 72339069031481344) (u / 4 % 2 * 72340172821233664))
     ≡ octet (affineBit u s)
-first-bits u s h =
+by-digits u s h =
     let bit : (x : ℕ) → x % 2 < 2 = λ x. omega arith in
     let low : (t : ℕ) (f : ℕ → ℕ) → t < 2 → AreBits (λ i. min t (f i)) = λ t f l. record { each = λ i. omega arith } in
     rw (everywhere s, at-ones (u % 2) (bit u), at-twos (u / 2 % 2) (bit (u / 2)), at-fours (u / 4 % 2) (bit (u / 4)))
@@ -67,6 +67,24 @@ first-bits u s h =
     ∙ packed-xor 8 _ _ (parities-bits (λ i. s + min (u % 2) (i % 2))) (parities-bits (λ i. min (u / 2 % 2) (i / 2 % 2) + min (u / 4 % 2) (i / 4 % 2)))
     ∙ packed-ext 8 _ _ (λ i l. parities s (min (u % 2) (i % 2)) (min (u / 2 % 2) (i / 2 % 2)) (min (u / 4 % 2) (i / 4 % 2))
     ∙ ap (λ (x : ℕ). (s + x) % 2) (sym (three-digits u i l))))
+
+-- a sum of digits of which one is taken
+one-taken :
+    (a b c : ℕ) → ((min (a % 2) 1 + (min b 0 + min c 0)) % 2 ≡ a % 2) × ((min b 0 + (min (a % 2) 1 + min c 0)) % 2 ≡ a % 2) × ((min b 0 + (min c 0 + min (a % 2) 1)) % 2 ≡ a % 2)
+one-taken a b c = (omega arith, omega arith, omega arith)
+
+-- the parities of u AND 1, 2 and 4
+pub first-bits :
+    (u s : ℕ) → s < 2
+    → bitXor
+    (bitXor (s * 72340172838076673) (ones (bitAnd u 1) % 2 * 72058693566333184))
+    (bitXor (ones (bitAnd u 2) % 2 * 72339069031481344) (ones (bitAnd u 4) % 2 * 72340172821233664))
+    ≡ octet (affineBit u s)
+first-bits u s h =
+    let one : ones (bitAnd u 1) % 2 ≡ u % 2 = ap (λ (x : ℕ). x % 2) (three-digits u 1 (omega arith)) ∙ one-taken u (u / 2 % 2) (u / 4 % 2) .0 in
+    let two : ones (bitAnd u 2) % 2 ≡ u / 2 % 2 = ap (λ (x : ℕ). x % 2) (three-digits u 2 (omega arith)) ∙ one-taken (u / 2) (u % 2) (u / 4 % 2) .1 in
+    let four : ones (bitAnd u 4) % 2 ≡ u / 4 % 2 = ap (λ (x : ℕ). x % 2) (three-digits u 4 (omega arith)) ∙ one-taken (u / 4) (u % 2) (u / 2 % 2) .2 in
+    rw (one, two, four) (by-digits u s h)
 
 -- ---- the codeword by eights
 

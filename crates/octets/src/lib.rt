@@ -26,14 +26,13 @@ fn add_bit(x: u64, t: u64) -> u64
     x ^ t * 72340172838076673
 }
 
-// The first eight bits of the codeword of mask u and constant s: the digits of the places, where u has them.
+// The first eight bits of the codeword of mask u and constant s: the parities of u AND 1, 2 and 4, each added at the places with that digit.
 fn first_eight(u: usize, s: i32) -> u64
     requires { ⌜ IsBit s ⌝ }
     ensures { λ x. ⌜ x ≡ octet (affineBit u (natAbs s)) ⌝ }
 {
-    let v = u as u64;
-    let a = s as u64 * 72340172838076673 ^ v % 2 * 72058693566333184;
-    let b = v / 2 % 2 * 72339069031481344 ^ v / 4 % 2 * 72340172821233664;
+    let a = s as u64 * 72340172838076673 ^ parity(u & 1) * 72058693566333184;
+    let b = parity(u & 2) * 72339069031481344 ^ parity(u & 4) * 72340172821233664;
     a ^ b
 }
 
