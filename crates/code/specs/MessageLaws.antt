@@ -12,6 +12,7 @@ use lib.ListN.{length, getD, take, length-append, List·getD-append}
 use lib.Seq.{getD-at, take-suc, take-length}
 use borrow.Author.Tests.{le-leb, lt-leb}
 use Rattle.code.specs.Code.{IsCodeword, codeword, coefficient, degree, dimension, gather, messageOf, rank, spread}
+use Rattle.code.specs.Codewords.{coefficient-lt}
 use Rattle.code.specs.Degree.{coef, coef-parity}
 use Rattle.code.specs.Inverse.{codeword-coef, coef-twice, coefficient-codeword, encoder-codeword, spread-high}
 use Rattle.words.specs.Sum.{total}
@@ -87,6 +88,30 @@ gather-spread r f message (suc n) h l = elim (decLe (degree n) r) [
       ∙ gather-spread r f message n (λ A j. h A (omega arith)) (omega (arith, rank-out r n (omega arith)))
       ∙ ap (λ (x : ℕ). take x message) (sym (rank-out r n (omega arith)))
 ]
+
+-- ---- the message's size and bits
+
+append-bits : (xs : List ℕ) (a : ℕ) → ((i : ℕ) → bit xs i < 2) → a < 2 → (i : ℕ) → bit (xs ++ (a ∷ [])) i < 2
+append-bits [] a h l zero = l
+append-bits [] a h l (suc i) = omega arith
+append-bits (x ∷ xs) a h l zero = h 0
+append-bits (x ∷ xs) a h l (suc i) = append-bits xs a (λ j. h (suc j)) l i
+
+gather-bits : (r : ℕ) (f : ℕ → ℕ) → ((A : ℕ) → f A < 2) → (n i : ℕ) → bit (gather r f n) i < 2
+unfolding gather
+gather-bits r f h zero i = omega arith
+gather-bits r f h (suc n) i = elim (decLe (degree n) r) [
+  | yes l ↦ rw (le-leb (degree n) r l) (append-bits (gather r f n) (f n) (gather-bits r f h n) (h n) i)
+  | no k ↦ rw (lt-leb (degree n) r (omega arith)) (gather-bits r f h n i)
+]
+
+pub message-bits : (m r : ℕ) (w : List ℕ) (i : ℕ) → bit (messageOf m r w) i < 2
+unfolding messageOf
+message-bits m r w = gather-bits r (coefficient m w) (coefficient-lt m w) (2 ^ m)
+
+pub message-length : (m r : ℕ) (w : List ℕ) → length (messageOf m r w) ≡ dimension m r
+unfolding messageOf dimension
+message-length m r w = length-gather r (coefficient m w) (2 ^ m)
 
 -- ---- reading and encoding
 

@@ -1,26 +1,19 @@
--- A call's contract from its checks, and the round trip of calls: what `encode` wrote, `read_message` gives back, and the other way
--- round. Assumes nothing.
+-- A call's contract from its checks, and what it says where they pass. Assumes nothing.
 use Prim.Native.Nat.{ℕ}
 use native.Mathlib.Omega.{arith}
 use mathlib.Core.Path.{_≡_, refl, sym, ap, _∙_}
 use mathlib.Core.Bool.{Bool, true, false}
 use mathlib.Core.List.{List}
-use lib.ListN.{length}
 use borrow.Author.Tests.{ne-eqb}
 use Rattle.refusals.specs.declared.Refusal.{Refusal}
 use Rattle.refusals.specs.declared.Answer.{Answer}
 use Rattle.refusals.specs.declared.Answer.the-variants.{Done, Refused}
 use Rattle.refusals.specs.Refusals.{Check, Checked, numberOf, answerNumber, firstRefusal}
-use Rattle.refusals.specs.CheckLaws.{passed, number-pos, other-place}
-use Rattle.code.specs.Code.{codeword, codewordTest, messageOf}
-use Rattle.code.specs.Codewords.{codeword-of-test}
-use Rattle.code.specs.MessageLaws.{message-codeword, codeword-message}
+use Rattle.refusals.specs.CheckLaws.{done-of, number-pos, other-place}
+use Rattle.code.specs.Code.{codewordTest}
 use Rattle.codec_checks.specs.Checks.{testChecks}
-use Rattle.codec_checks.specs.Passed.{encode-passed, read-passed}
-use Rattle.codec.specs.Calls.{Calls, Encodes, Reads, Tests, testedNumber, verdict}
+use Rattle.codec.specs.Calls.{Calls, Tests, testedNumber, verdict}
 use Rattle.codec.specs.declared.Tested.{Tested}
-
--- ---- a call's contract, from its checks
 
 verdict-number : (b : Bool) → testedNumber (verdict b) ≡ 0
 verdict-number true = refl
@@ -42,6 +35,10 @@ call-refused {cs} {why = why} x before c h = record {
 pub call-done : {cs : List Check} (s x before : List ℕ) {after : List ℕ} → 0 ≡ firstRefusal cs → after ≡ x → Calls cs x s before after Done
 call-done s x before e h = record { number = e; place = other-place s Done (λ z. absurd (omega arith)); output = rw (← e) h }
 
+-- a call whose checks pass
+pub call-passed : {cs : List Check} {x s before after : List ℕ} {a : Answer} → Calls cs x s before after a → 0 ≡ firstRefusal cs → (a ≡ Done) × (after ≡ x)
+call-passed {a = a} c e = (done-of a (c .number ∙ sym e), c .output ∙ rw (← e))
+
 pub test-refused : {m r : ℕ} {word : List ℕ} {a : Answer} {why : Refusal} → Checked (testChecks m r word) word a → a ≡ Refused why → Tests m r word (Tested.Refused why)
 test-refused {m} {r} {word} {a} {why} c e = record {
   number = ap answerNumber (sym e) ∙ c .number;
@@ -51,15 +48,3 @@ test-refused {m} {r} {word} {a} {why} c e = record {
 
 pub test-done : {m r : ℕ} {word : List ℕ} {a : Tested} → 0 ≡ firstRefusal (testChecks m r word) → a ≡ verdict (codewordTest m r word) → Tests m r word a
 test-done {m} {r} {word} {a} e h = record { number = rw h (verdict-number (codewordTest m r word) ∙ e); place = λ p q. absurd (verdict-place (codewordTest m r word) (sym h ∙ q)); answer = λ z. h }
-
--- ---- the round trip of calls
-
-pub read-encoded : (m r : ℕ) (message before after : List ℕ) → Encodes m r message before after Done → messageOf m r after ≡ message
-read-encoded m r message before after h =
-    let p = encode-passed m r message (length before) (sym (h .number)) in
-    ap (messageOf m r) (h .output ∙ rw (← (h .number))) ∙ message-codeword m r message (p .size) (p .bits)
-
-pub encode-read : (m r : ℕ) (word before after : List ℕ) → Reads m r word before after Done → codeword m r after ≡ word
-encode-read m r word before after h =
-    let (p, last) = read-passed m r word (length before) _ (sym (h .number)) in
-    ap (codeword m r) (h .output ∙ rw (← (h .number))) ∙ codeword-message m r word (codeword-of-test m r word (p .word-is) (passed 12 _ _ last .0))

@@ -87,6 +87,9 @@ code-passed m r cs e =
     let three = passed 1 _ _ (two .1) in
     (record { some = leb-true 1 m (one .0); most = leb-true m 10 (two .0); order = leb-true r m (three .0) }, three .1)
 
+pub code-passes : {m r : ℕ} (cs : List Check) {x : ℕ} → IsCode m r → x ≡ firstRefusal cs → x ≡ firstRefusal (codeChecks m r ++ cs)
+code-passes {m} {r} cs c e = passes _ _ _ (le-leb 1 m (c .some)) (passes _ _ _ (le-leb m 10 (c .most)) (passes _ _ _ (le-leb r m (c .order)) e))
+
 module _ (m r : ℕ) where
   pub exponent-low : m < 1 → 1 ≡ firstRefusal (codeChecks m r)
   exponent-low l = fails _ _ _ (lt-leb 1 m l)
@@ -123,6 +126,11 @@ number-pos Profile = omega arith
 number-pos Header = omega arith
 number-pos Truncated = omega arith
 
+-- an answer whose number is 0
+pub done-of : (a : Answer) → answerNumber a ≡ 0 → a ≡ Done
+done-of Done e = refl
+done-of (Refused why) e = absurd (omega (arith, number-pos why))
+
 -- ---- bytes
 
 pub bits-tested : (s : List ℕ) → allBits s ≡ true → (p : ℕ) → bit s p < 2
@@ -140,6 +148,10 @@ module _ (s : List ℕ) (p : ℕ) (h : Scanned s p) where
   pub bytes-pass : length s ≤ p → 0 ≡ firstRefusal (byteChecks s)
   unfolding allBits
   bytes-pass l = passes 8 _ _ (true-all (length s) _ (λ q b. lt-ltb (bit s q) 2 (h .before q (omega arith)))) no-more
+
+pub bits-pass : (s : List ℕ) → ((p : ℕ) → bit s p < 2) → 0 ≡ firstRefusal (byteChecks s)
+bits-pass s h =
+    bytes-pass s (length s) record { within = omega arith; before = λ q l. h q; found = λ l. absurd (omega arith) } (omega arith)
 
 -- ---- what a checking function answers
 

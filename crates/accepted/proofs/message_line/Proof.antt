@@ -6,7 +6,8 @@ use lib.ListN.{length}
 use Rattle.lines.specs.Lines.{acceptedLine}
 use Rattle.text.specs.Texts.{Appended, Bits}
 use Rattle.lines.specs.LineLaws.{accepted-length}
-use Rattle.accepted.specs.MessageLines.{message-bits, message-length, reads-message}
+use Rattle.code.specs.MessageLaws.{message-bits, message-length}
+use Rattle.accepted.specs.MessageLines.{reads-message}
 use borrow.Author.Needs.{needs}
 use native.Mathlib.Omega.{arith}
 use Rattle.accepted.proofs.message_line.Statement.{statement}

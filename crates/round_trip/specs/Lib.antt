@@ -1,0 +1,2 @@
+-- Definitions: RoundTrip.
+pub mod RoundTrip
