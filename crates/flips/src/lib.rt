@@ -17,18 +17,18 @@ ghost use Rattle.code.specs.Code.{codewordTest};
 ghost use Rattle.cosets.specs.Votes.{Tally};
 ghost use Rattle.flips.specs.Flips.{flipOf};
 
-// Flips each place whose votes are more than half of the n - 1 directions; whether none was.
-pub fn flip(n: usize, area: &mut [i32]) -> bool
-    requires { ⌜ (0 < n) × (n ≤ 1024) × (2 * n ≤ length (now area)) ⌝ }
+// Flips each place whose votes are more than half of the directions that did not abstain, of n - 1; whether none was.
+pub fn flip(n: usize, abstained: usize, area: &mut [i32]) -> bool
+    requires { ⌜ (abstained < n) × (n ≤ 1024) × (2 * n ≤ length (now area)) ⌝ }
     requires { ⌜ Bits n (now area) ⌝ }
     requires { ⌜ Tally n n (now area) ⌝ }
-    ensures settled { λ r. ⌜ ((a : ℕ) → r ≡ allBelow n (λ p. eqb (flipOf n a (now (area .entry)) p) 0)) ⌝ }
-    ensures flipped { λ r. ⌜ ((a : ℕ) → Written (pos 0) 0 n (λ p. pos ((bit (wordOf n (now (area .entry))) p + flipOf n a (now (area .entry)) p) % 2)) (now (area .entry)) (now (area .exit))) ⌝ }
+    ensures settled { λ r. ⌜ r ≡ allBelow n (λ p. eqb (flipOf n abstained (now (area .entry)) p) 0) ⌝ }
+    ensures flipped { λ r. ⌜ Written (pos 0) 0 n (λ p. pos ((bit (wordOf n (now (area .entry))) p + flipOf n abstained (now (area .entry)) p) % 2)) (now (area .entry)) (now (area .exit)) ⌝ }
 {
-    let last = (n - 1) as u32;
+    let voters = (n - 1 - abstained) as u32;
     let mut settled = true;
     for p in 0..n {
-        let f = if last < 2 * (area[n + p] as u32) {
+        let f = if voters < 2 * (area[n + p] as u32) {
             1
         } else {
             0

@@ -24,11 +24,12 @@ use Rattle.direction.specs.Direction.{project, cosetOf}
 use Rattle.direction.specs.Insert.{highest-top}
 use Rattle.direction.specs.Projected.{word-project}
 use Rattle.cosets.specs.Votes.{Projects, Tally, castVote}
-use Rattle.rule.specs.Reading.{Outcome, leavesOf, vote, votes, reading, roundLeaves}
+use Rattle.rule.specs.Reading.{Outcome, abstained, abstains, leavesOf, vote, votes, reading, roundLeaves}
 use Rattle.rule.specs.Decoding.{limited, answerOf}
 use Rattle.rule.specs.DecodingLaws.{limited-within}
 use Rattle.rule.specs.Calls.{valuesOf}
 use Rattle.rule.specs.Counts.{reading-noise}
+use Rattle.rule.specs.Rounds.{vote-once}
 use Rattle.told.specs.Told.{Holds, Read, Kept}
 use Rattle.told.specs.declared.Told.{Told}
 use Rattle.steps.specs.Steps.{countIn, voteOf, Voter, Unmoved}
@@ -36,7 +37,6 @@ use Rattle.steps.specs.declared.Count.{Count}
 use Rattle.steps.specs.declared.Count.the-variants.{Done, Exhausted}
 use Rattle.readings.specs.Readings.{countOf, Ready, Voted}
 use Rattle.readings.specs.Answers.{Late, by-answer, count-is, counted, limited-late, spent}
-use Rattle.readings.proofs.Flips.{vote-le}
 
 -- a round: exponent, order and round limit of its readings, the leaves left, the word of exponent m + 1, and the length of the area
 pub record Round : Type 0 where
@@ -58,12 +58,17 @@ votesTo f i p = sumBelow i (λ j. vote (suc j) (project (f .m) (suc j) (f .word)
 abbrev leavesTo : Round → ℕ → ℕ
 leavesTo f i = sumBelow i (λ j. leavesOf (readAt f j))
 
--- after i directions with `used` leaves
-pub record Poll (f : Round) (ys : List ℤ) (i used : ℕ) : Type 0 where
+-- how many of them abstain
+abbrev absentTo : Round → ℕ → ℕ
+absentTo f i = sumBelow i (λ j. abstains (readAt f j))
+
+-- after i directions with `used` leaves, of which `absent` abstained
+pub record Poll (f : Round) (ys : List ℤ) (i used absent : ℕ) : Type 0 where
   pub long : length ys ≡ f .size
   pub many : i ≤ 2 ^ suc (f .m) - 1
   pub few : used ≤ f .left
   pub counted : used ≡ leavesTo f i
+  pub missed : absent ≡ absentTo f i
   pub word : Front (2 ^ suc (f .m)) (f .word) ys
   pub voted : (p : ℕ) → p < 2 ^ suc (f .m) → at ys (2 ^ suc (f .m) + p) ≡ pos (votesTo f i p)
 
@@ -116,13 +121,14 @@ module _ {m n k : ℕ} {xs zs : List ℤ} (zeroed : Zeroed m n k xs zs) where
     pub start-from : From (round-of m r limit left (putMid n k xs zs)) xs
     start-from = record { bits = bits; long = sym start-long; word = front-word room-here (start-front (front-of bits)) }
 
-    pub start-poll : Poll (round-of m r limit left (putMid n k xs zs)) (putMid n k xs zs) 0 0
+    pub start-poll : Poll (round-of m r limit left (putMid n k xs zs)) (putMid n k xs zs) 0 0 0
     unfolding total
     start-poll = record {
       long = refl;
       many = omega arith;
       few = omega arith;
       counted = refl;
+      missed = refl;
       word = front-of (front-bits room-here (start-front (front-of bits)));
       voted = start-zero;
     }
@@ -130,16 +136,16 @@ module _ {m n k : ℕ} {xs zs : List ℤ} (zeroed : Zeroed m n k xs zs) where
 -- ---- a direction
 
 -- direction i + 1 is next
-pub record Stage (f : Round) (ys : List ℤ) (i used : ℕ) : Type 0 where
+pub record Stage (f : Round) (ys : List ℤ) (i used absent : ℕ) : Type 0 where
   pub some : 1 ≤ f .m
   pub small : f .m ≤ 9
   pub order : f .r ≤ f .m
   pub cap : f .left ≤ 1000000
   pub room : 8 * 2 ^ f .m ≤ f .size
-  pub poll : Poll f ys i used
+  pub poll : Poll f ys i used absent
   pub more : i < 2 ^ suc (f .m) - 1
 
-module _ {f : Round} {ys : List ℤ} {i used : ℕ} (stage : Stage f ys i used) where
+module _ {f : Round} {ys : List ℤ} {i used absent : ℕ} (stage : Stage f ys i used absent) where
   projects-of : {us : List ℤ} → length us ≡ f .size → Front (2 ^ suc (f .m)) (f .word) us → Projects (f .m) (i + 1) us
   projects-of e word = record {
     small = stage .small;
@@ -157,12 +163,12 @@ abbrev pub rest : ℕ → List ℤ → List ℤ
 rest a zs = take (length zs - a) (drop a zs)
 
 -- its projection stands at place a, from where on the area is lent to its reading
-pub record Lent (f : Round) (ys zs : List ℤ) (i used a : ℕ) : Type 0 where
-  pub stage : Stage f ys i used
+pub record Lent (f : Round) (ys zs : List ℤ) (i used absent a : ℕ) : Type 0 where
+  pub stage : Stage f ys i used absent
   pub projected : Written (pos 0) (4 * 2 ^ f .m) (2 ^ f .m) (λ q. pos (bit (project (f .m) (i + 1) (wordOf (2 ^ suc (f .m)) ys)) q)) ys zs
   pub place : a ≡ 4 * 2 ^ f .m
 
-module _ {f : Round} {ys zs : List ℤ} {i used a : ℕ} (lent : Lent f ys zs i used a) where
+module _ {f : Round} {ys zs : List ℤ} {i used absent a : ℕ} (lent : Lent f ys zs i used absent a) where
   open Round f using (m, r, limit, left, word, size)
   open Lent lent using (stage, projected, place)
 
@@ -210,8 +216,8 @@ module _ {f : Round} {ys zs : List ℤ} {i used a : ℕ} (lent : Lent f ys zs i 
   word-here = front-word (omega (arith, room-rest)) front-here
 
 -- its reading came back with an answer
-pub record Answered (f : Round) (ys zs us : List ℤ) (i used a : ℕ) (told : Told) : Type 0 where
-  pub lent : Lent f ys zs i used a
+pub record Answered (f : Round) (ys zs us : List ℤ) (i used absent a : ℕ) (told : Told) : Type 0 where
+  pub lent : Lent f ys zs i used absent a
   pub same : length us ≡ length (rest a zs)
   pub read : Read (2 ^ f .m) (limited (f .left - used) (reading (f .r) (f .m) (f .limit) (wordOf (2 ^ f .m) (rest a zs)))) us (told .answer)
   pub kept : Kept (2 ^ f .m) (rest a zs) us told
@@ -225,7 +231,7 @@ no-vote : (m b : ℕ) (xs : List ℤ) (p : ℕ) (d : Decoded) → castVote m b x
 no-vote m b xs p (Accepted k l) e = e
 no-vote m b xs p (Refused why k l) e = refl
 
-module _ {f : Round} {ys zs us : List ℤ} {i used a : ℕ} {told : Told} (answered : Answered f ys zs us i used a told) where
+module _ {f : Round} {ys zs us : List ℤ} {i used absent a : ℕ} {told : Told} (answered : Answered f ys zs us i used absent a told) where
   open Round f using (m, r, limit, left, word, size)
   open Answered answered using (lent, same, read, kept)
   open Lent lent using (stage, projected, place)
@@ -264,7 +270,7 @@ module _ {f : Round} {ys zs us : List ℤ} {i used a : ℕ} {told : Told} (answe
   votes-here p h = before-rest (2 ^ suc m + p) (omega arith) ∙ stage .poll .voted p h
 
   votes-few : (p : ℕ) → votesTo f i p < i + 1
-  votes-few p = omega (arith, sum-most i 1 _ (λ j l. vote-le (suc j) (project m (suc j) word) (readAt f j) p))
+  votes-few p = omega (arith, sum-most i 1 (λ j. vote (suc j) (project m (suc j) word) (readAt f j) p) (λ j l. omega (arith, vote-once (suc j) (project m (suc j) word) (readAt f j) p)))
 
   late : Late o
   late = limited-late (left - used) (readAt f i) (reading-noise r m limit (project m (suc i) word))
@@ -319,21 +325,21 @@ module _ {f : Round} {ys zs us : List ℤ} {i used a : ℕ} {told : Told} (answe
       (λ why e k l b c h. refl) answer o late said holds
 
 -- its votes are cast, and its leaves counted
-pub record Cast (f : Round) (ys zs us ts : List ℤ) (i used a : ℕ) (told : Told) (count : Count) : Type 0 where
-  pub answered : Answered f ys zs us i used a told
+pub record Cast (f : Round) (ys zs us ts : List ℤ) (i used absent a : ℕ) (told : Told) (count : Count) : Type 0 where
+  pub answered : Answered f ys zs us i used absent a told
   pub counts : count ≡ countIn (valuesOf (told .answer))
   pub votes : Written (pos 0) (2 ^ suc (f .m)) (2 ^ suc (f .m))
       (λ p. at (back a zs us) (2 ^ suc (f .m) + p) +ℤ pos (voteOf (f .m) (i + 1) (back a zs us) (told .answer) p)) (back a zs us) ts
 
-module _ {f : Round} {ys zs us ts : List ℤ} {i used a : ℕ} {told : Told} {count : Count}
-    (cast : Cast f ys zs us ts i used a told count) where
+module _ {f : Round} {ys zs us ts : List ℤ} {i used absent a : ℕ} {told : Told} {count : Count}
+    (cast : Cast f ys zs us ts i used absent a told count) where
   open Round f using (m, r, limit, left, word, size)
   open Cast cast using (answered, counts, votes)
 
-  poll : Poll f ys i used
+  poll : Poll f ys i used absent
   poll = answered .lent .stage .poll
 
-  counts-is : count ≡ countOf (left - used) (leavesOf (readAt f i))
+  counts-is : count ≡ countOf (left - used) (leavesOf (readAt f i)) (abstains (readAt f i))
   counts-is = counts ∙ ap countIn (said answered) ∙ count-is (left - used) (readAt f i) (reading-noise r m limit (project m (suc i) word))
 
   pub cast-front : Front (2 ^ suc m) word ts
@@ -348,27 +354,34 @@ module _ {f : Round} {ys zs us ts : List ℤ} {i used a : ℕ} {told : Told} {co
   cast-over e =
       omega (
         arith,
-        spent (left - used) (leavesOf (readAt f i)) counts-is e,
+        spent (left - used) (leavesOf (readAt f i)) (abstains (readAt f i)) counts-is e,
         poll .counted,
         poll .few,
         answered .lent .stage .more,
         sum-prefix (2 ^ suc m - 1) (suc i) (λ j. leavesOf (readAt f j)) (omega arith),
       )
 
-  module _ (l : ℕ) (e : count ≡ Done l) where
-    enough : (l ≡ leavesOf (readAt f i)) × (leavesOf (readAt f i) ≤ left - used)
-    enough = counted (left - used) (leavesOf (readAt f i)) counts-is l e
+  module _ (l b : ℕ) (e : count ≡ Done l b) where
+    enough : (l ≡ leavesOf (readAt f i)) × (leavesOf (readAt f i) ≤ left - used) × (b ≡ abstains (readAt f i))
+    enough = counted (left - used) (leavesOf (readAt f i)) (abstains (readAt f i)) counts-is l b e
 
     pub cast-few : used + l ≤ left
     cast-few = omega (arith, enough, poll .few)
 
-    pub cast-more : Poll f ts (i + 1) (used + l)
+    -- those that abstained are no more than the directions
+    pub cast-absent : absent + b ≤ i + 1
+    cast-absent =
+        let once : (j : ℕ) → abstains (readAt f j) ≤ 1 = λ j. omega (arith, vote-once 0 word (readAt f j) 0) in
+        omega (arith, enough, poll .missed, once i, sum-most i 1 _ (λ j h. once j))
+
+    pub cast-more : Poll f ts (i + 1) (used + l) (absent + b)
     unfolding total
     cast-more = record {
       long = cast-long;
       many = omega (arith, answered .lent .stage .more);
       few = cast-few;
       counted = ap₂ (λ (x y : ℕ). x + y) (poll .counted) (enough .0) ∙ ap (leavesTo f) (sym (add-one i));
+      missed = ap₂ (λ (x y : ℕ). x + y) (poll .missed) (enough .2) ∙ ap (absentTo f) (sym (add-one i));
       word = cast-front;
       voted = λ p u.
           votes .within p u
@@ -390,13 +403,15 @@ module _ {f : Round} {xs : List ℤ} (from : From f xs) where
   }
 
   -- every direction was counted
-  pub poll-done : {ys : List ℤ} {i used : ℕ} → Poll f ys i used → 2 ^ suc m - 1 ≤ i → Voted m left (reading r m limit) xs ys (Done used)
-  unfolding votes roundLeaves
-  poll-done {ys} {i} {used} poll end =
+  pub poll-done : {ys : List ℤ} {i used absent : ℕ} → Poll f ys i used absent → 2 ^ suc m - 1 ≤ i
+      → Voted m left (reading r m limit) xs ys (Done used absent)
+  unfolding votes roundLeaves abstained
+  poll-done {ys} {i} {used} {absent} poll end =
       let e : i ≡ 2 ^ suc m - 1 = omega (arith, poll .many) in
       let all : used ≡ roundLeaves m (reading r m limit) (wordOf (2 ^ suc m) xs) = poll .counted ∙ ap (leavesTo f) e ∙ ap (roundLeaves m (reading r m limit)) (from .word) in
+      let missed : absent ≡ abstained m (reading r m limit) (wordOf (2 ^ suc m) xs) = poll .missed ∙ ap (absentTo f) e ∙ ap (abstained m (reading r m limit)) (from .word) in
       record {
-        said = subst (λ (l : ℕ). Done used ≡ countOf left l) all (rw (le-ltb left used (poll .few)));
+        said = subst (λ (l : ℕ). Done used absent ≡ countOf left l (abstained m (reading r m limit) (wordOf (2 ^ suc m) xs))) all (rw (le-ltb left used (poll .few)) (ap (Done used) missed));
         kept = kept (poll .long) (poll .word);
         tally = λ _ p h. poll .voted p h ∙ ap (λ (j : ℕ). pos (votesTo f j p)) e ∙ ap (λ (u : List ℕ). pos (votes m (reading r m limit) u p)) (from .word);
       }

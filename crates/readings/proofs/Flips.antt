@@ -10,26 +10,23 @@ use lib.Pow.{pow-pos}
 use lib.IntN.{ℤ, pos, natAbs}
 use borrow.Author.Tests.{eqb-true}
 use Rattle.words.specs.Sum.{allBelow}
-use Rattle.words.specs.SumLaws.{all-ext, all-true, bit-tabulate, sum-most}
+use Rattle.words.specs.SumLaws.{all-ext, all-true, bit-tabulate}
 use Rattle.words.specs.Word.{bit, indicator, addWords, IsWord}
 use Rattle.words.specs.WordLaws.{word-add, word-bit, word-of-bits}
 use Rattle.words.specs.Written.{Written}
 use Rattle.area.specs.Area.{at, Front, wordOf}
 use Rattle.area.specs.AreaLaws.{front-word, front-kept}
-use Rattle.direction.specs.Direction.{project}
 use Rattle.cosets.specs.Votes.{Tally}
-use Rattle.rule.specs.Reading.{Outcome, accepted, refused, vote, votes, abstained, flipped, flips}
-use Rattle.rule.specs.Rounds.{flips-word, still}
+use Rattle.rule.specs.Reading.{Outcome, votes, abstained, flipped, flips}
+use Rattle.rule.specs.Rounds.{flips-word, still, votes-cast}
 use Rattle.flips.specs.Flips.{flipOf}
-
-pub vote-le : (b : ℕ) (v : List ℕ) (o : Outcome) (p : ℕ) → vote b v o p ≤ 1
-vote-le b v (accepted d k l) p = omega arith
-vote-le b v (refused e k l) p = omega arith
 
 module _ (m : ℕ) (lower : List ℕ → Outcome) (w : List ℕ) where
   votes-lt : (p : ℕ) → votes m lower w p < 2 ^ suc m
-  unfolding votes
-  votes-lt p = omega (arith, pow-pos (suc m), sum-most (2 ^ suc m - 1) 1 _ (λ i l. vote-le (suc i) (project m (suc i) w) (lower (project m (suc i) w)) p))
+  votes-lt p = omega (arith, pow-pos (suc m), votes-cast m lower w p)
+
+  pub abstained-lt : abstained m lower w < 2 ^ suc m
+  abstained-lt = omega (arith, pow-pos (suc m), votes-cast m lower w 0)
 
   bit-flips : (p : ℕ) → p < 2 ^ suc m → bit (flips m lower w) p ≡ indicator (flipped (votes m lower w p) (2 ^ suc m - 1) (abstained m lower w))
   unfolding flips

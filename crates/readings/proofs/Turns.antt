@@ -8,7 +8,7 @@ use mathlib.Core.Bool.{Bool, true, false, cond}
 use mathlib.Core.List.{List}
 use lib.Dec.{eqb}
 use lib.ListN.{length}
-use lib.Pow.{pow-pos, pow-mono}
+use lib.Pow.{pow-mono}
 use lib.IntN.{ℤ, pos}
 use Rattle.words.specs.Sum.{allBelow}
 use Rattle.words.specs.Word.{bit, addWords}
@@ -34,7 +34,7 @@ use Rattle.steps.specs.declared.Count.{Count}
 use Rattle.steps.specs.declared.Count.the-variants.{Done, Exhausted}
 use Rattle.readings.specs.Readings.{Ready, Voted}
 use Rattle.readings.specs.Answers.{counted, spent}
-use Rattle.readings.proofs.Flips.{Polled, polled-tally, still-is, word-flipped, word-settled}
+use Rattle.readings.proofs.Flips.{Polled, abstained-lt, polled-tally, still-is, word-flipped, word-settled}
 
 -- ---- orders 0 and 1
 
@@ -107,24 +107,24 @@ module _ {f : Series} {ys : List ℤ} {k used : ℕ} (turn : Turn f ys k used) w
   pub turn-exhausted : {zs us : List ℤ} {c : Count} → k < limit → Voted m (left - used) lower ys zs c → c ≡ Exhausted → Reads f us (Refused TooManyLeaves 0 left)
   turn-exhausted {us = us} h voted e =
       read-above us whole
-      (omega (arith, turn .few, spent (left - used) (roundLeaves m lower w) (voted .said) e, round-least m lower r (limit - (k + 1)) k used w, ap leavesOf (next h)))
+      (omega (arith, turn .few, spent (left - used) (roundLeaves m lower w) (abstained m lower w) (voted .said) e, round-least m lower r (limit - (k + 1)) k used w, ap leavesOf (next h)))
 
--- a round was made, which answered c, `count` leaves
-pub record Made (f : Series) (ys zs : List ℤ) (k used : ℕ) (c : Count) (count : ℕ) : Type 0 where
+-- a round was made, which answered c, `count` leaves and `absent` directions that abstained
+pub record Made (f : Series) (ys zs : List ℤ) (k used : ℕ) (c : Count) (count absent : ℕ) : Type 0 where
   pub up : suc (f .m) ≡ f .M
   pub turn : Turn f ys k used
   pub more : k < f .limit
   pub room : 2 * 2 ^ f .M ≤ length (f .start)
   pub same-length : length zs ≡ length ys
   pub voted : Voted (f .m) (f .left - used) (f .lower) ys zs c
-  pub done : c ≡ Done count
+  pub done : c ≡ Done count absent
 
-module _ {f : Series} {ys zs : List ℤ} {k used : ℕ} {c : Count} {count : ℕ} (made : Made f ys zs k used c count) where
+module _ {f : Series} {ys zs : List ℤ} {k used : ℕ} {c : Count} {count absent : ℕ} (made : Made f ys zs k used c count absent) where
   open Series f using (M, m, r, limit, left, lower, whole, start)
   open Made made using (up, turn, voted)
 
-  leaves : (count ≡ roundLeaves m lower (w turn)) × (roundLeaves m lower (w turn) ≤ left - used)
-  leaves = counted (left - used) (roundLeaves m lower (w turn)) (voted .said) count (made .done)
+  leaves : (count ≡ roundLeaves m lower (w turn)) × (roundLeaves m lower (w turn) ≤ left - used) × (absent ≡ abstained m lower (w turn))
+  leaves = counted (left - used) (roundLeaves m lower (w turn)) (abstained m lower (w turn)) (voted .said) count absent (made .done)
 
   pub made-few : used + count ≤ left
   made-few = omega (arith, leaves, turn .few)
@@ -138,10 +138,10 @@ module _ {f : Series} {ys zs : List ℤ} {k used : ℕ} {c : Count} {count : ℕ
   long : length zs ≡ length start
   long = made .same-length ∙ turn .long
 
-  pub made-flips : (n : ℕ) → n ≡ 2 ^ M → M ≤ 10 → ((0 < n) × (n ≤ 1024) × (2 * n ≤ length zs)) × (Bits n zs × Tally n n zs)
+  pub made-flips : (n : ℕ) → n ≡ 2 ^ M → M ≤ 10 → ((absent < n) × (n ≤ 1024) × (2 * n ≤ length zs)) × (Bits n zs × Tally n n zs)
   made-flips n e h =
       let q : 2 ^ suc m ≡ n = power ∙ sym e in (
-        (omega (arith, pow-pos M), omega (arith, pow-mono h), omega (arith, long, made .room)),
+        (omega (arith, q, leaves .2, abstained-lt m lower (w turn)), omega (arith, pow-mono h), omega (arith, long, made .room)),
         (
           subst (λ (j : ℕ). Bits j zs) q (front-bits (omega (arith, long, made .room, power)) (polled .word)),
           subst (λ (j : ℕ). Tally j j zs) q (polled-tally polled),
@@ -149,13 +149,13 @@ module _ {f : Series} {ys zs : List ℤ} {k used : ℕ} {c : Count} {count : ℕ
       )
 
 -- the flips were made in the first n numbers; b says that there were none
-pub record Flips (f : Series) (ys zs us : List ℤ) (k used : ℕ) (c : Count) (count n : ℕ) (b : Bool) : Type 0 where
-  pub made : Made f ys zs k used c count
+pub record Flips (f : Series) (ys zs us : List ℤ) (k used : ℕ) (c : Count) (count absent n : ℕ) (b : Bool) : Type 0 where
+  pub made : Made f ys zs k used c count absent
   pub many : n ≡ 2 ^ f .M
-  pub none : (a : ℕ) → b ≡ allBelow n (λ p. eqb (flipOf n a zs p) 0)
-  pub flipped : (a : ℕ) → Written (pos 0) 0 n (λ p. pos ((bit (wordOf n zs) p + flipOf n a zs p) % 2)) zs us
+  pub none : b ≡ allBelow n (λ p. eqb (flipOf n absent zs p) 0)
+  pub flipped : Written (pos 0) 0 n (λ p. pos ((bit (wordOf n zs) p + flipOf n absent zs p) % 2)) zs us
 
-module _ {f : Series} {ys zs us : List ℤ} {k used : ℕ} {c : Count} {count n : ℕ} {b : Bool} (flipping : Flips f ys zs us k used c count n b) where
+module _ {f : Series} {ys zs us : List ℤ} {k used : ℕ} {c : Count} {count absent n : ℕ} {b : Bool} (flipping : Flips f ys zs us k used c count absent n b) where
   open Series f using (M, m, r, limit, left, lower, whole, start)
   open Flips flipping using (made, many, none, flipped)
   open Made made using (up, turn)
@@ -167,10 +167,10 @@ module _ {f : Series} {ys zs us : List ℤ} {k used : ℕ} {c : Count} {count n 
   a = abstained m lower x
 
   still-here : b ≡ still m lower x
-  still-here = rw (many ∙ sym (power made)) at (none a) ∙ still-is (polled made)
+  still-here = rw (many ∙ sym (power made), leaves made .2) at none ∙ still-is (polled made)
 
   flips-here : Written (pos 0) 0 (2 ^ suc m) (λ p. pos ((bit (wordOf (2 ^ suc m) zs) p + flipOf (2 ^ suc m) a zs p) % 2)) zs us
-  flips-here = rw (many ∙ sym (power made)) at (flipped a)
+  flips-here = rw (many ∙ sym (power made), leaves made .2) at flipped
 
   room : 2 ^ suc m ≤ length zs
   room = omega (arith, long made, made .room, power made)

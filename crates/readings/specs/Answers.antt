@@ -11,7 +11,7 @@ use Rattle.refusals.specs.Refusals.{numberOf}
 use Rattle.refusals.specs.declared.Refusal.{Refusal}
 use Rattle.refusals.specs.declared.Decoded.{Decoded}
 use Rattle.refusals.specs.declared.Decoded.the-variants.{Accepted, Refused}
-use Rattle.rule.specs.Reading.{Outcome, accepted, refused, leavesOf}
+use Rattle.rule.specs.Reading.{Outcome, abstains, accepted, refused, leavesOf}
 use Rattle.rule.specs.Decoding.{limited, answerOf}
 use Rattle.rule.specs.DecodingLaws.{limited-cases}
 use Rattle.rule.specs.Calls.{valuesOf}
@@ -47,30 +47,30 @@ by-answer P one two (Refused why k l) (refused n i j) h e = two why n k l i j
 
 -- ---- counts
 
-noise-count : (o : Outcome) → Noise o → countIn (answerOf o) ≡ Done (leavesOf o)
+noise-count : (o : Outcome) → Noise o → countIn (answerOf o) ≡ Done (leavesOf o) (abstains o)
 noise-count (accepted d k l) h = refl
-noise-count (refused e k l) h = rw (ne-eqb e 12 (λ z. omega arith))
+noise-count (refused e k l) h = rw (ne-eqb e 12 (λ z. omega arith), ne-eqb e 0 (λ z. omega arith))
 
 -- the count that a direction brings
-pub count-is : (left : ℕ) (o : Outcome) → Noise o → countIn (answerOf (limited left o)) ≡ countOf left (leavesOf o)
+pub count-is : (left : ℕ) (o : Outcome) → Noise o → countIn (answerOf (limited left o)) ≡ countOf left (leavesOf o) (abstains o)
 count-is left o h = go (ltb left (leavesOf o))
   where
-    go : (t : Bool) → countIn (answerOf (cond t (refused 12 0 left) o)) ≡ cond t Exhausted (Done (leavesOf o))
+    go : (t : Bool) → countIn (answerOf (cond t (refused 12 0 left) o)) ≡ cond t Exhausted (Done (leavesOf o) (abstains o))
     go true = refl
     go false = noise-count o h
 
-module _ (left n : ℕ) {count : Count} (e : count ≡ countOf left n) where
+module _ (left n a : ℕ) {count : Count} (e : count ≡ countOf left n a) where
   -- a count that was made is within what was left
-  pub counted : (l : ℕ) → count ≡ Done l → (l ≡ n) × (n ≤ left)
-  counted l f = go (ltb left n) refl (sym f ∙ e)
+  pub counted : (l b : ℕ) → count ≡ Done l b → (l ≡ n) × (n ≤ left) × (b ≡ a)
+  counted l b f = go (ltb left n) refl (sym f ∙ e)
     where
-      go : (t : Bool) → ltb left n ≡ t → Done l ≡ cond t Exhausted (Done n) → (l ≡ n) × (n ≤ left)
+      go : (t : Bool) → ltb left n ≡ t → Done l b ≡ cond t Exhausted (Done n a) → (l ≡ n) × (n ≤ left) × (b ≡ a)
       go true q g = let z : _≡_ {A = ℕ} 0 1 = cc in absurd (omega arith)
-      go false q g = (cc, ltb-false left n q)
+      go false q g = (cc, ltb-false left n q, cc)
 
   pub spent : count ≡ Exhausted → left < n
   spent f = go (ltb left n) refl (sym f ∙ e)
     where
-      go : (t : Bool) → ltb left n ≡ t → Exhausted ≡ cond t Exhausted (Done n) → left < n
+      go : (t : Bool) → ltb left n ≡ t → Exhausted ≡ cond t Exhausted (Done n a) → left < n
       go true q g = ltb-true left n q
       go false q g = let z : _≡_ {A = ℕ} 0 1 = cc in absurd (omega arith)

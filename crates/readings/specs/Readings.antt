@@ -7,7 +7,7 @@ use lib.ListN.{length}
 use lib.Dec.{ltb}
 use lib.IntN.{ℤ, pos}
 use Rattle.area.specs.Area.{at, Bits, SameFront, wordOf}
-use Rattle.rule.specs.Reading.{Outcome, votes, roundLeaves}
+use Rattle.rule.specs.Reading.{Outcome, abstained, votes, roundLeaves}
 use Rattle.steps.specs.declared.Count.{Count}
 use Rattle.steps.specs.declared.Count.the-variants.{Done, Exhausted}
 
@@ -20,13 +20,13 @@ pub record Ready (m r left : ℕ) (xs : List ℤ) : Type 0 where
   pub bits : Bits (2 ^ m) xs
   pub few : left ≤ 1000000
 
--- the leaf count l where `left` are left
-abbrev pub countOf : ℕ → ℕ → Count
-countOf left l = cond (ltb left l) Exhausted (Done l)
+-- the leaf count l where `left` are left, a directions abstaining
+abbrev pub countOf : ℕ → ℕ → ℕ → Count
+countOf left l a = cond (ltb left l) Exhausted (Done l a)
 
 -- what a round of a word of exponent m + 1 leaves: the word, and the votes after it
 pub record Voted (m left : ℕ) (lower : List ℕ → Outcome) (xs ys : List ℤ) (count : Count) : Type 0 where
-  pub said : count ≡ countOf left (roundLeaves m lower (wordOf (2 ^ suc m) xs))
+  pub said : count ≡ countOf left (roundLeaves m lower (wordOf (2 ^ suc m) xs)) (abstained m lower (wordOf (2 ^ suc m) xs))
   pub kept : SameFront (2 ^ suc m) xs ys
   pub tally : roundLeaves m lower (wordOf (2 ^ suc m) xs) ≤ left → (p : ℕ) → p < 2 ^ suc m
       → at ys (2 ^ suc m + p) ≡ pos (votes m lower (wordOf (2 ^ suc m) xs) p)

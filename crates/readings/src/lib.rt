@@ -43,19 +43,20 @@ pub fn reading(m: usize, r: usize, rounds: usize, left: usize, area: &mut [i32])
             Count::Exhausted => {
                 return changed(Decoded::Refused(Refusal::TooManyLeaves, 0, left));
             }
-            Count::Done(leaves) => {
+            Count::Done(leaves, abstained) => {
                 used += leaves;
+                k += 1;
+                if flip(n, abstained, area) {
+                    return settle(m, r, k, used, area);
+                }
             }
-        }
-        k += 1;
-        if flip(n, area) {
-            return settle(m, r, k, used, area);
         }
     }
     changed(Decoded::Refused(Refusal::Flipping, k, used))
 }
 
-// A round of the word of exponent m + 1 in the front of the area: every direction's votes, by readings at exponent m and order r.
+// A round of the word of exponent m + 1 in the front of the area: every direction's votes, by readings at exponent m and order r, their leaves
+// and how many directions abstained.
 fn round(m: usize, r: usize, rounds: usize, left: usize, area: &mut [i32]) -> Count
     requires { ⌜ Ready (suc m) (suc r) left (now area) ⌝ }
     requires { ⌜ 1 ≤ r ⌝ }
@@ -65,6 +66,7 @@ fn round(m: usize, r: usize, rounds: usize, left: usize, area: &mut [i32]) -> Co
     let rest = 2 * n;
     area::fill(&mut area[n..rest], 0);
     let mut used = 0;
+    let mut abstained = 0;
     for i in 0..n - 1 {
         projections::project(m, i + 1, area);
         let told = reading(m, r, rounds, left - used, &mut area[rest..]);
@@ -72,10 +74,11 @@ fn round(m: usize, r: usize, rounds: usize, left: usize, area: &mut [i32]) -> Co
             Count::Exhausted => {
                 return Count::Exhausted;
             }
-            Count::Done(leaves) => {
+            Count::Done(leaves, abstains) => {
                 used += leaves;
+                abstained += abstains;
             }
         }
     }
-    Count::Done(used)
+    Count::Done(used, abstained)
 }

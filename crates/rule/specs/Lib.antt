@@ -13,4 +13,5 @@ pub mod DecodingLaws
 pub mod ProfileLaws
 pub mod Demand3
 pub mod WorkedRounds
+pub mod WorkedVotes
 pub mod WorkedValues

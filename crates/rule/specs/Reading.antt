@@ -1,4 +1,4 @@
--- The rule: document 01, "A reading at order r". Assumes nothing.
+-- The rule: document 01, "A reading at order r", with the vote of document 02, request 5. Assumes nothing.
 use Prim.Native.Nat.{ℕ, zero, suc, pred, _+_, _-_, _*_, _%_, _^_}
 use mathlib.Core.Bool.{Bool, true, false, cond}
 use mathlib.Core.List.{List}
@@ -56,9 +56,10 @@ abbrev pub vote : ℕ → List ℕ → Outcome → ℕ → ℕ
 vote b v (accepted d k l) p = (bit v (cosetOf b p) + bit d (cosetOf b p)) % 2
 vote b v (refused e k l) p = 0
 
--- "Place p flips exactly when 2 × its votes > n − 1": by its votes, the number of directions, n - 1, and how many abstained
+-- document 02, request 5: "A place flips exactly when 2 × its votes is more than the number of directions that did not abstain. Equality
+-- leaves the bit.", in place of document 01's "2 × its votes > n − 1": by its votes, the number of directions, n - 1, and how many abstained
 unfoldable pub flipped : ℕ → ℕ → ℕ → Bool
-flipped votes directions abstained = ltb directions (2 * votes)
+flipped votes directions abstained = ltb (directions - abstained) (2 * votes)
 
 -- one round of a word of exponent m + 1: directions 1 to n - 1, each read one order lower
 module _ (m : ℕ) (lower : List ℕ → Outcome) where

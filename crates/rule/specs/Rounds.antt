@@ -1,16 +1,27 @@
--- One round of a reading: what flips is a word, what the round leads to, and when two rounds flip and count alike. Assumes nothing.
-use Prim.Native.Nat.{ℕ, suc, _+_, _-_, _^_, _<_}
+-- One round of a reading: what flips is a word, the votes are those cast, what the round leads to, and when two rounds flip and count alike.
+-- Assumes nothing.
+use Prim.Native.Nat.{ℕ, suc, _+_, _-_, _^_, _≤_, _<_}
 use mathlib.Core.Path.{_≡_, refl, sym, ap₂, subst}
 use mathlib.Core.Bool.{Bool, true, false, cond}
 use mathlib.Core.List.{List}
-use lib.Dec.{eqb}
+use native.Mathlib.Omega.{arith}
+use lib.Dec.{eqb, ltb}
+use borrow.Author.Tests.{le-ltb}
 use Rattle.code.specs.Code.{codewordTest}
 use Rattle.rule.specs.Reading.{Outcome, abstained, abstains, accepted, flipped, flips, leavesOf, refused, roundLeaves, rounds, vote, votes}
 use Rattle.direction.specs.Direction.{project}
 use Rattle.words.specs.Sum.{allBelow}
-use Rattle.words.specs.SumLaws.{sum-ext, tabulate-ext}
+use Rattle.words.specs.SumLaws.{bit-tabulate, sum-ext, sum-most, sum-plus, tabulate-ext, true-all}
 use Rattle.words.specs.Word.{IsWord, addWords, bit, indicator}
 use Rattle.words.specs.WordLaws.{indicator-lt, word-tabulate}
+
+-- a direction votes at most once, and not where it abstains
+pub vote-once : (b : ℕ) (v : List ℕ) (o : Outcome) (p : ℕ) → vote b v o p + abstains o ≤ 1
+vote-once b v (accepted d k l) p = omega arith
+vote-once b v (refused e k l) p = omega arith
+
+below-zero : (x : ℕ) → ltb x 0 ≡ false
+below-zero x = le-ltb x 0 (omega arith)
 
 -- a settled word after k rounds with l leaves, t the test whether it is a codeword
 abbrev pub settled : List ℕ → ℕ → ℕ → Bool → Outcome
@@ -24,6 +35,23 @@ module _ (m : ℕ) (lower : List ℕ → Outcome) where
   -- nothing flips
   abbrev pub still : List ℕ → Bool
   still w = allBelow (2 ^ suc m) (λ p. eqb (bit (flips m lower w) p) 0)
+
+  -- a place has no more votes than directions did not abstain
+  pub votes-cast : (w : List ℕ) (p : ℕ) → votes m lower w p + abstained m lower w ≤ 2 ^ suc m - 1
+  unfolding votes abstained
+  votes-cast w p =
+      omega (
+        arith,
+        sum-plus (2 ^ suc m - 1) (λ i. vote (suc i) (project m (suc i) w) (lower (project m (suc i) w)) p) (λ i. abstains (lower (project m (suc i) w))),
+        sum-most (2 ^ suc m - 1) 1 _ (λ i l. vote-once (suc i) (project m (suc i) w) (lower (project m (suc i) w)) p),
+      )
+
+  -- so where all abstain nothing flips
+  pub none-cast : (w : List ℕ) → abstained m lower w ≡ 2 ^ suc m - 1 → still w ≡ true
+  unfolding flips flipped
+  none-cast w e =
+      true-all (2 ^ suc m) _ (λ p l.
+      let none : votes m lower w p ≡ 0 = omega (arith, votes-cast w p) in rw (bit-tabulate (2 ^ suc m) _ p l, none) (simp below-zero))
 
   pub rounds-none : (r k l : ℕ) (w : List ℕ) → rounds m lower r 0 k l w ≡ refused 10 k l
   unfolding rounds

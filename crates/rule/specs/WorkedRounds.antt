@@ -22,11 +22,11 @@ zeros n = replicate n 0
 abbrev pub wrong : ℕ → List ℕ
 wrong n = 1 ∷ zeros (pred n)
 
-same-at : {A : Type 0} (n : ℕ) (f g : ℕ → A) (d : A) → tabulate n f ≡ tabulate n g → (i : ℕ) → i < n → f i ≡ g i
+pub same-at : {A : Type 0} (n : ℕ) (f g : ℕ → A) (d : A) → tabulate n f ≡ tabulate n g → (i : ℕ) → i < n → f i ≡ g i
 same-at n f g d e i l = sym (getD-tabulate n f d i l) ∙ ap (λ xs. getD xs i d) e ∙ getD-tabulate n g d i l
 
 -- the projections of w, of exponent m + 1, are all v
-abbrev Projects : ℕ → List ℕ → List ℕ → Type 0
+abbrev pub Projects : ℕ → List ℕ → List ℕ → Type 0
 Projects m w v = tabulate (2 ^ suc m - 1) (λ i. project m (suc i) w) ≡ tabulate (2 ^ suc m - 1) (λ i. v)
 
 -- a round in which every direction has the projection v, whose reading gives o
@@ -34,7 +34,7 @@ module _ (m : ℕ) (lower : List ℕ → Outcome) (w v : List ℕ) (o : Outcome)
   same : (i : ℕ) → i < 2 ^ suc m - 1 → SameBallot (suc i) (project m (suc i) w) (lower (project m (suc i) w)) (project m (suc i) w) o
   same i l = rw (same-at (2 ^ suc m - 1) (λ i. project m (suc i) w) (λ i. v) [] all i l, read) (record { voted = λ p. refl; absent = refl; counted = refl })
 
-  one-round : (r left k l : ℕ) → rounds m lower r (suc left) k l w ≡
+  pub one-round : (r left k l : ℕ) → rounds m lower r (suc left) k l w ≡
       cond (still m (λ u. o) w) (settled w (suc k) (l + roundLeaves m (λ u. o) w) (codewordTest (suc m) r w))
       (rounds m lower r left (suc k) (l + roundLeaves m (λ u. o) w) (addWords w (flips m (λ u. o) w)))
   one-round r left k l = rw (rounds-step m lower r left k l w, flips-same m lower (λ u. o) w w same, leaves-same m lower (λ u. o) w w same)

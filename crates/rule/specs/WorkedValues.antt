@@ -13,6 +13,7 @@ use Rattle.rule.specs.Decoding.{after, decodeOf, limited}
 use Rattle.rule.specs.Reading.{Outcome, abstained, accepted, flipped, flips, order0, order1, reading, refused, roundLeaves, rounds, votes}
 use Rattle.rule.specs.Outcomes.{shift}
 use Rattle.rule.specs.WorkedRounds.{four-rounds, mended, one-round-only, stopped, wrong, zeros}
+use Rattle.rule.specs.WorkedVotes.{four-wrong, left-alone, nine-mended, nine-wrong}
 use Rattle.direction.specs.Direction.{cosetOf, deleteBit, highest, insertZero, project, representative}
 use Rattle.hadamard.specs.Correlation.{affine, correlation, countBelow, firstBelow}
 use Rattle.refusals.specs.Refusals.{firstRefusal}
@@ -98,8 +99,12 @@ deep =
     ∷ decodes 5 3 1 1000000 (wrong 32) (refused 11 1 465)
     ∷ []
 
+-- document 02, request 5: equality leaves the bits, and a block that the votes of all directions would leave is mended by those cast
+unfoldable pub cast : List Row
+cast = decodes 5 2 4 1000000 four-wrong (refused 11 1 31) ∷ decodes 6 2 4 1000000 nine-wrong (accepted (zeros 64) 2 126) ∷ []
+
 unfoldable pub table : List Row
-table = (marked ++ sixteen ++ beside) ++ four ++ deep
+table = (marked ++ sixteen ++ beside) ++ four ++ deep ++ cast
 
 -- the block plus a codeword, by covariance, under any round limit from 2 on
 plus : (left : ℕ) → reading 2 4 (suc (suc left)) (digits 16 1001000100010001) ≡ accepted (digits 16 0001000100010001) 2 30
@@ -126,10 +131,14 @@ deep-values : map valued deep ≡ deep
 unfolding deep decodeOf after firstRefusal
 deep-values = cc (ap (limited 1000000) four-rounds, ap (limited 1394) four-rounds, ap (limited 1000000) one-round-only)
 
+cast-values : map valued cast ≡ cast
+unfolding cast decodeOf after firstRefusal
+cast-values = cc (ap (limited 1000000) (left-alone 3), ap (limited 1000000) (nine-mended 2))
+
 small-values : map valued (marked ++ sixteen ++ beside) ≡ marked ++ sixteen ++ beside
 unfolding marked sixteen beside decodeOf after firstRefusal codewordTest lowTest coefficient project tabulate insertZero highest leadingZeros reading rounds votes abstained flipped flips roundLeaves order1 order0 countBelow firstBelow correlation affine total ones onesIn cosetOf representative deleteBit addWords codeword monomial rank spread
 small-values = refl
 
 pub worked-values : map valued table ≡ table
-unfolding table marked sixteen beside four tabulate
-worked-values = ap₂ _++_ small-values (ap₂ _++_ four-values deep-values)
+unfolding table marked sixteen beside four deep tabulate
+worked-values = ap₂ _++_ small-values (ap₂ _++_ four-values (ap₂ _++_ deep-values cast-values))

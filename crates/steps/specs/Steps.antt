@@ -13,9 +13,9 @@ use Rattle.told.specs.declared.Told.{Told}
 use Rattle.steps.specs.declared.Count.{Count}
 use Rattle.steps.specs.declared.Count.the-variants.{Done, Exhausted}
 
--- the count that an answer brings: none where its leaves ran out
+-- the count that an answer brings: its leaves, and 1 where the direction abstains; none where its leaves ran out
 abbrev pub countIn : Values → Count
-countIn (values e k l) = cond (eqb e 12) Exhausted (Done l)
+countIn (values e k l) = cond (eqb e 12) Exhausted (Done l (cond (eqb e 0) 0 1))
 
 -- direction b's vote on place p after its reading's answer
 abbrev pub voteOf : ℕ → ℕ → List ℤ → Decoded → ℕ → ℕ

@@ -11,9 +11,9 @@ ghost use Rattle.cosets.specs.Votes.{Projects, Tally};
 ghost use Rattle.rule.specs.Calls.{valuesOf};
 ghost use Rattle.steps.specs.Steps.{countIn, voteOf, Voter, Unmoved};
 
-// A round's leaf count, or that the leaves left do not suffice.
+// The leaf count of a direction or a round and how many directions abstained; or that the leaves left do not suffice.
 pub enum Count {
-    Done(usize),
+    Done(usize, usize),
     Exhausted,
 }
 
@@ -24,11 +24,12 @@ fn abstain(why: Refusal, leaves: usize) -> Count
     if let Refusal::TooManyLeaves = why {
         Count::Exhausted
     } else {
-        Count::Done(leaves)
+        Count::Done(leaves, 1)
     }
 }
 
-// Direction b's votes after its reading, and its leaf count. A word kept as it was gives no votes.
+// Direction b's votes after its reading, its leaf count, and whether it abstains. A word kept as it was gives no votes, and its direction does
+// not abstain.
 pub fn cast(m: usize, b: usize, told: Told, area: &mut [i32]) -> Count
     requires { ⌜ Projects m b (now area) ⌝ }
     requires { ⌜ Tally (2 ^ suc m) b (now area) ⌝ }
@@ -41,10 +42,10 @@ pub fn cast(m: usize, b: usize, told: Told, area: &mut [i32]) -> Count
     match answer {
         Decoded::Accepted(_, leaves) => {
             if told.kept {
-                return Count::Done(leaves);
+                return Count::Done(leaves, 0);
             }
             votes::add_votes(m, b, area);
-            Count::Done(leaves)
+            Count::Done(leaves, 0)
         }
         Decoded::Refused(why, _, leaves) => abstain(why, leaves),
     }

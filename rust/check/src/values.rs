@@ -1,4 +1,4 @@
-//! Calls with known answers: document 01's bench values, and for each known fault a block that shows it.
+//! Calls with known answers: document 01's bench values, and blocks that show a fault or document 02's vote.
 //! The bench's cosets and projections cannot be seen from outside; the tests of `second` hold them.
 
 use crate::blocks::MOST_LEAVES;
@@ -93,11 +93,16 @@ fn further_values() -> Vec<Value> {
         refused("the same, leaf limit 1,394 gives 12", at_5(4, 1_394), (12, 0, 1_394)),
         refused("the same, round limit 1 gives 11", at_5(1, MOST_LEAVES), (11, 1, 465)),
         accepted("m 6, r 2, three rounds", decode(6, 2, &three_rounds), 3, 189, vec![0; 64]),
+        refused("m 5, r 2, half of the votes cast", decode(5, 2, &wrong(5, &[0, 1, 2, 4])), (11, 1, 31)),
+        accepted("m 6, r 2, more than half of those cast", decode(6, 2, &wrong(6, &NINE)), 2, 126, vec![0; 64]),
     ]
 }
 
 /// Wrong places that take three rounds to mend at m 6, r 2.
-const THREE_ROUNDS: [usize; 10] = [4, 5, 7, 16, 25, 28, 37, 38, 42, 60];
+const THREE_ROUNDS: [usize; 11] = [11, 15, 16, 17, 25, 29, 30, 35, 46, 50, 61];
+
+/// Wrong places with more than half of the votes cast, but not of all directions: by document 01's vote refused 11.
+const NINE: [usize; 9] = [2, 10, 11, 16, 17, 39, 43, 45, 54];
 
 pub fn list() -> Vec<Value> {
     bench_values().into_iter().chain(bench_values_of_order_2()).chain(further_values()).collect()

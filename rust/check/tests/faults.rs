@@ -34,6 +34,8 @@ noticed! {
     lower_mask: LowerMask,
     flips_during_round: FlipsDuringRound,
     abstainer_votes_zeros: AbstainerVotesZeros,
+    abstainers_counted: AbstainersCounted,
+    equality_flips: EqualityFlips,
     order_zero_tie_zeros: OrderZeroTieZeros,
     first_outermost_round_leaves: FirstOutermostRoundLeaves,
     last_outermost_round_leaves: LastOutermostRoundLeaves,

@@ -75,12 +75,12 @@ impl Reader<'_> {
     /// Counts the votes of a round; false when the leaf limit is passed.
     fn votes_counted(&mut self, m: usize, r: usize, levels: &mut [Level]) -> bool {
         levels[0].votes.clear(m, numbers(m));
+        levels[0].voters = 0;
         if r > 2 {
             return (1..1 << m).all(|b| self.direction(m, r, b, levels));
         }
         self.leaves += (1 << m) - 1;
-        let level = &mut levels[0];
-        second_order::round(m, &level.word, &mut level.votes, self.exchanged);
+        second_order::round(m, &mut levels[0], self.exchanged);
         true
     }
 
@@ -95,6 +95,7 @@ impl Reader<'_> {
             Outcome::Accepted => {}
             _ => return true,
         }
+        level.voters += 1;
         let mut differs = false;
         for (projected, decoded) in projection.iter_mut().zip(&inner[0].word) {
             *projected ^= decoded;
@@ -122,11 +123,11 @@ fn order_zero(m: usize, word: &mut Word) -> Outcome {
 
 /// Makes the flips; whether there were any.
 fn flip(m: usize, level: &mut Level) -> bool {
-    let present = present(m);
     let mut flipped = 0;
-    for (number, flips) in level.word[..numbers(m)].iter_mut().zip(level.votes.flips(m)) {
-        *number ^= flips & present;
-        flipped |= flips & present;
+    for (j, number) in level.word[..numbers(m)].iter_mut().enumerate() {
+        let flips = level.votes.flips(m, j, level.voters) & present(m);
+        *number ^= flips;
+        flipped |= flips;
     }
     flipped != 0
 }

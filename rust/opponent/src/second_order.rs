@@ -2,37 +2,37 @@
 
 use crate::leaf;
 use crate::places::{exchange, highest, without_digit};
-use crate::votes::Votes;
-use crate::word::Word;
-use crate::workspace::Exchanged;
+use crate::workspace::{Exchanged, Level};
 
-/// Counts the votes of all directions; m at least 3.
-pub fn round(m: usize, word: &Word, votes: &mut Votes, exchanged: &mut Exchanged) {
+/// Counts the votes of all directions, and those that do not abstain; m at least 3.
+pub fn round(m: usize, level: &mut Level, exchanged: &mut Exchanged) {
     match m {
-        7 => round_of::<2>(m, word, votes, exchanged),
-        8 => round_of::<4>(m, word, votes, exchanged),
-        9 => round_of::<8>(m, word, votes, exchanged),
-        10 => round_of::<16>(m, word, votes, exchanged),
-        6 => round_of::<1>(6, word, votes, exchanged),
-        _ => round_of::<1>(m, word, votes, exchanged),
+        7 => round_of::<2>(m, level, exchanged),
+        8 => round_of::<4>(m, level, exchanged),
+        9 => round_of::<8>(m, level, exchanged),
+        10 => round_of::<16>(m, level, exchanged),
+        6 => round_of::<1>(6, level, exchanged),
+        _ => round_of::<1>(m, level, exchanged),
     }
 }
 
 /// A word of W numbers. Directions go by eights, and direction 0 votes for nothing.
 #[inline(always)]
-fn round_of<const W: usize>(m: usize, word: &Word, votes: &mut Votes, exchanged: &mut Exchanged) {
-    let word: &[u64; W] = word[..W].try_into().expect("a word of W numbers");
+fn round_of<const W: usize>(m: usize, level: &mut Level, exchanged: &mut Exchanged) {
+    let word: &[u64; W] = level.word[..W].try_into().expect("a word of W numbers");
     fill_exchanged(m, word, exchanged);
+    let mut voters = 0;
     for eight in 0..1usize << (m - 3) {
         let mut cast = [[0; W]; 8];
         for (i, vote) in cast.iter_mut().enumerate() {
             let b = 8 * eight + i;
             if b > 0 {
-                *vote = direction_votes(m, b, word, exchanged);
+                *vote = direction_votes(m, b, word, exchanged, &mut voters);
             }
         }
-        votes.add_eight(m, &cast);
+        level.votes.add_eight(m, &cast);
     }
+    level.voters = voters;
 }
 
 /// The word with its places exchanged by each b below 64.
@@ -48,14 +48,21 @@ fn fill_exchanged<const W: usize>(m: usize, word: &[u64; W], exchanged: &mut Exc
     }
 }
 
-/// The places where direction b votes to flip.
+/// The places where direction b votes to flip; it is one of the voters where it does not abstain.
 #[inline(always)]
-fn direction_votes<const W: usize>(m: usize, b: usize, word: &[u64; W], exchanged: &Exchanged) -> [u64; W] {
+fn direction_votes<const W: usize>(
+    m: usize,
+    b: usize,
+    word: &[u64; W],
+    exchanged: &Exchanged,
+    voters: &mut usize,
+) -> [u64; W] {
     let (h, across) = (highest(b), b >> 6);
     let sums: [u64; W] = core::array::from_fn(|j| word[j] ^ exchanged[j ^ across][b & 63]);
     match leaf::nearest(m - 1, &cosets(h, &sums)) {
         None => [0; W],
         Some(nearest) => {
+            *voters += 1;
             let decoded = nearest.spread(b, h);
             core::array::from_fn(|j| sums[j] ^ decoded.number(j))
         }

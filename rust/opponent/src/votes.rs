@@ -55,9 +55,14 @@ impl Votes {
         }
     }
 
-    /// The places that flip: 2 × votes > n − 1 exactly when the votes' digit of n / 2 is 1.
-    pub fn flips(&self, m: usize) -> &Word {
-        &self.digits[m - 1]
+    /// The places of number j that flip. 2 × votes > voters exactly when votes > voters / 2, compared from digit 0 up.
+    #[inline(always)]
+    pub fn flips(&self, m: usize, j: usize, voters: usize) -> u64 {
+        let half = voters / 2;
+        self.digits[..m].iter().enumerate().fold(0, |more, (i, digit)| match half >> i & 1 {
+            0 => more | digit[j],
+            _ => more & digit[j],
+        })
     }
 }
 

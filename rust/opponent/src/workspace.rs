@@ -7,6 +7,8 @@ use crate::word::Word;
 pub struct Level {
     pub word: Word,
     pub votes: Votes,
+    /// How many directions of the round did not abstain.
+    pub voters: usize,
 }
 
 /// exchanged[j][b] is number j of the word with its places exchanged by b.
@@ -19,7 +21,7 @@ pub struct Workspace {
 
 impl Workspace {
     pub fn new() -> Workspace {
-        let level = || Level { word: [0; 16], votes: Votes::new() };
+        let level = || Level { word: [0; 16], votes: Votes::new(), voters: 0 };
         Workspace { levels: (0..11).map(|_| level()).collect(), exchanged: Box::new([[0; 64]; 16]) }
     }
 }

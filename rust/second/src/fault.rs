@@ -6,10 +6,14 @@ pub enum Fault {
     None,
     /// Equal correlations give the codeword of the lower mask instead of a tie.
     LowerMask,
-    /// A place flips as soon as its votes suffice, so later directions see a mixed word.
+    /// A place flips as soon as the votes so far suffice, so later directions see a mixed word.
     FlipsDuringRound,
     /// A direction without a codeword votes as if it had decoded zeros.
     AbstainerVotesZeros,
+    /// The vote counts directions that abstained: a place flips when 2 × its votes > n − 1, as before document 02.
+    AbstainersCounted,
+    /// A place flips also when 2 × its votes equals the number of directions that did not abstain.
+    EqualityFlips,
     /// A tie at order 0 gives zeros.
     OrderZeroTieZeros,
     /// Leaves are counted in the first round of the reading asked for, and in no later one.
@@ -62,10 +66,12 @@ pub enum Fault {
 }
 
 impl Fault {
-    pub const ALL: [Fault; 29] = [
+    pub const ALL: [Fault; 31] = [
         Fault::LowerMask,
         Fault::FlipsDuringRound,
         Fault::AbstainerVotesZeros,
+        Fault::AbstainersCounted,
+        Fault::EqualityFlips,
         Fault::OrderZeroTieZeros,
         Fault::FirstOutermostRoundLeaves,
         Fault::LastOutermostRoundLeaves,

@@ -1,4 +1,4 @@
-//! A reading at order r (document 01 "A reading at order r", 004 Algorithms 1 and 2).
+//! A reading at order r (document 01 "A reading at order r", document 02 request 5, 004 Algorithms 1 and 2).
 
 use crate::code;
 use crate::direction::{self, Numbering};
@@ -116,6 +116,7 @@ impl Reader<'_> {
         let projected_by = self.lists.cosets(m, self.numbering(Fault::LowestOneInProjection));
         let voted_by = self.lists.cosets(m, self.numbering(Fault::LowestOneInVote));
         let mut votes = vec![0usize; word.len()];
+        let mut voters = 0;
         let mut new = word.to_vec();
         for (cosets, vote_cosets) in projected_by.iter().zip(voted_by.iter()) {
             let during = self.fault == Fault::FlipsDuringRound;
@@ -125,6 +126,7 @@ impl Reader<'_> {
                 Err(_) if self.fault == Fault::AbstainerVotesZeros => vec![0; projected.len()],
                 Err(_) => continue,
             };
+            voters += 1;
             for (number, (p, q)) in vote_cosets.iter().enumerate() {
                 if decoded[number] != projected[number] {
                     votes[*p] += 1;
@@ -132,10 +134,20 @@ impl Reader<'_> {
                 }
             }
             if during {
-                new = flipped(word, &votes);
+                new = self.flipped(word, &votes, voters);
             }
         }
-        Ok(flipped(word, &votes))
+        Ok(self.flipped(word, &votes, voters))
+    }
+
+    /// A place flips exactly when 2 × its votes is more than the number of directions that did not abstain.
+    fn flipped(&self, word: &[u8], votes: &[usize], voters: usize) -> Vec<u8> {
+        let flips = |votes: usize| match self.fault {
+            Fault::AbstainersCounted => 2 * votes > word.len() - 1,
+            Fault::EqualityFlips => 2 * votes >= voters,
+            _ => 2 * votes > voters,
+        };
+        word.iter().zip(votes).map(|(bit, votes)| bit ^ flips(*votes) as u8).collect()
     }
 
     /// The numbering where `part` of the decoder is at work.
@@ -145,12 +157,6 @@ impl Reader<'_> {
         }
         Numbering::Highest
     }
-}
-
-/// Place p flips exactly when 2 × its votes > n − 1.
-fn flipped(word: &[u8], votes: &[usize]) -> Vec<u8> {
-    let flips = votes.iter().map(|v| (2 * v > word.len() - 1) as u8);
-    word.iter().zip(flips).map(|(bit, flip)| bit ^ flip).collect()
 }
 
 /// The number of places where two words differ.

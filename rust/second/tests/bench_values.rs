@@ -1,4 +1,4 @@
-//! Document 01's "Meter bench values" on the second encoder and decoder.
+//! Document 01's "Meter bench values" on the second encoder and decoder, and values beyond them.
 
 use second::{Answer, Fault, Second};
 
@@ -89,4 +89,18 @@ fn order_3_at_m_5() {
     assert_eq!(decoded(5, 3, 4, 1_395, &word), ((0, 2, 1_395), Some(vec![0; 32])));
     assert_eq!(decoded(5, 3, 4, 1_394, &word), ((12, 0, 1_394), None));
     assert_eq!(decoded(5, 3, 1, MOST_LEAVES, &word), ((11, 1, 465), None));
+}
+
+/// Document 02, request 5. Directions 1 to 6, each from one wrong place to another, find zeros nearest; the other 25
+/// tie. A wrong place has the votes of the 3 between the other three, just half of the 6.
+#[test]
+fn equality_leaves_the_bit() {
+    assert_eq!(decoded(5, 2, 4, MOST_LEAVES, &wrong(5, &[0, 1, 2, 4])), ((11, 1, 31), None));
+}
+
+/// By document 01's vote this one is refused 11 after one round.
+#[test]
+fn more_than_half_of_the_votes_cast() {
+    let word = wrong(6, &[2, 10, 11, 16, 17, 39, 43, 45, 54]);
+    assert_eq!(decoded(6, 2, 4, MOST_LEAVES, &word), ((0, 2, 126), Some(vec![0; 64])));
 }

@@ -25,21 +25,21 @@ use Rattle.flips.specs.Flips.{flipOf}
 use Rattle.flips.proofs.flip.Statement.{statement}
 use Rattle.flips.proofs.flip.Tie as tie
 
-abbrev flippedAt : ℕ → List ℤ → ℕ → ℤ
-flippedAt n xs p = pos ((bit (wordOf n xs) p + flipOf n 0 xs p) % 2)
+abbrev flippedAt : ℕ → ℕ → List ℤ → ℕ → ℤ
+flippedAt n a xs p = pos ((bit (wordOf n xs) p + flipOf n a xs p) % 2)
 
-abbrev still : ℕ → List ℤ → ℕ → Bool
-still n xs p = eqb (flipOf n 0 xs p) 0
+abbrev still : ℕ → ℕ → List ℤ → ℕ → Bool
+still n a xs p = eqb (flipOf n a xs p) 0
 
--- the rule, whatever abstained
-module _ (n : ℕ) (xs : List ℤ) (p : ℕ) where
-  flips : n - 1 < 2 * natAbs (at xs (n + p)) → flipOf n 0 xs p ≡ 1
+-- the rule, where a directions abstained
+module _ (n a : ℕ) (xs : List ℤ) (p : ℕ) where
+  flips : n - 1 - a < 2 * natAbs (at xs (n + p)) → flipOf n a xs p ≡ 1
   unfolding flipped
-  flips h = ap indicator (lt-ltb (n - 1) (2 * natAbs (at xs (n + p))) h)
+  flips h = ap indicator (lt-ltb (n - 1 - a) (2 * natAbs (at xs (n + p))) h)
 
-  stays : 2 * natAbs (at xs (n + p)) ≤ n - 1 → flipOf n 0 xs p ≡ 0
+  stays : 2 * natAbs (at xs (n + p)) ≤ n - 1 - a → flipOf n a xs p ≡ 0
   unfolding flipped
-  stays h = ap indicator (le-ltb (n - 1) (2 * natAbs (at xs (n + p))) h)
+  stays h = ap indicator (le-ltb (n - 1 - a) (2 * natAbs (at xs (n + p))) h)
 
 -- a bit with the flip added
 flipped-bit : {z : ℤ} → IsBit z → (t : Bool) → toZ w32 (bitXor (ofZ w32 z) (indicator t)) ≡ pos ((natAbs z + indicator t) % 2)
@@ -53,12 +53,12 @@ unfolding total
 all-more n f = rw add-one
 
 abbrev Inv-loop : tie.InvT-loop
-Inv-loop n area₀ last settled₀ p₀ area settled p =
+Inv-loop n abstained area₀ voters settled₀ p₀ area settled p =
     (p ≤ n) × (length area ≡ length area₀)
-    × Written (pos 0) 0 p (flippedAt n area₀) area₀ area × (settled ≡ allBelow p (still n area₀))
+    × Written (pos 0) 0 p (flippedAt n abstained area₀) area₀ area × (settled ≡ allBelow p (still n abstained area₀))
 
 abbrev μ-loop : tie.MeasureT-loop
-μ-loop n area₀ last settled₀ p₀ area settled p = n - p
+μ-loop n abstained area₀ voters settled₀ p₀ area settled p = n - p
 
 -- the votes that the code reads
 votes : (c : tie.After-if12 Inv-loop μ-loop) → let s = c .before .before .before in let l = c .before .before .loop in
@@ -77,20 +77,23 @@ bit-read c = let l = c .before .before .loop in l .inv .2 .above (l .p) (omega a
 
 -- whether the place flips
 flip-is : (c : tie.Joined1 Inv-loop μ-loop) → let s = c .before .before .before .before in let l = c .before .before .before .loop in
-    c .if1 .f ≡ flipOf (s .args .n) 0 (s .args .area .now) (l .p)
+    c .if1 .f ≡ flipOf (s .args .n) (s .args .abstained) (s .args .area .now) (l .p)
 flip-is c =
     let s = c .before .before .before .before in
     let l = c .before .before .before .loop in
     ⊎-elim
-    (λ w. w .1 ∙ sym (flips (s .args .n) (s .args .area .now) (l .p) (rw (votes (c .before)) at (w .0 .taken))))
-    (λ w. w .1 ∙ sym (stays (s .args .n) (s .args .area .now) (l .p) (rw (votes (c .before)) at (w .0 .left))))
+    (λ w. w .1 ∙ sym (flips (s .args .n) (s .args .abstained) (s .args .area .now) (l .p) (rw (votes (c .before)) at (w .0 .taken))))
+    (λ w. w .1 ∙ sym (stays (s .args .n) (s .args .abstained) (s .args .area .now) (l .p) (rw (votes (c .before)) at (w .0 .left))))
     (c .if1 .came)
 
-sub-last : tie.Need-sub-last Inv-loop μ-loop
-sub-last c = search needs
+sub-voters : tie.Need-sub-voters Inv-loop μ-loop
+sub-voters c = search needs
 
-cast-last : tie.Need-cast-last Inv-loop μ-loop
-cast-last c = search needs
+sub-voters-2 : tie.Need-sub-voters-2 Inv-loop μ-loop
+sub-voters-2 c = search needs
+
+cast-voters : tie.Need-cast-voters Inv-loop μ-loop
+cast-voters c = search needs
 
 loop-holds : tie.Need-loop-holds Inv-loop μ-loop
 unfolding total
@@ -121,8 +124,8 @@ mul-area c = search needs
 slice-copy-out-area : tie.Need-slice-copy-out-area Inv-loop μ-loop
 slice-copy-out-area c = search needs
 
-mul-t10 : tie.Need-mul-t10 Inv-loop μ-loop
-mul-t10 c = search needs
+mul-t12 : tie.Need-mul-t12 Inv-loop μ-loop
+mul-t12 c = search needs
 
 slice-set-from-area : tie.Need-slice-set-from-area Inv-loop μ-loop
 slice-set-from-area c = search needs
@@ -144,23 +147,22 @@ loop-again c =
     let b : Bits n xs = s .pre .1 .0 in
     let more = written-more (l .inv .2) (l .p) (toZ w32 (bitXor (ofZ w32 (at (l .area) (l .p))) (f .if1 .f))) (omega arith) (omega arith)
     (rw (bit-read (f .before), flip-is f, bit-wordOf n xs (l .p) under)
-    (flipped-bit (b .bits (l .p) under) (flipped (natAbs (at xs (n + l .p))) (n - 1) 0))) in (
+    (flipped-bit (b .bits (l .p) under) (flipped (natAbs (at xs (n + l .p))) (n - 1) (s .args .abstained)))) in (
       omega arith,
       more .long,
       more,
-      rw (l .inv .3, flip-is f) (all-more (l .p) (still n xs)),
+      rw (l .inv .3, flip-is f) (all-more (l .p) (still n (s .args .abstained) xs)),
     )
 
 same-length : tie.Need-same-length Inv-loop μ-loop
 same-length c = search needs
 
 returns : tie.Need-returns Inv-loop μ-loop
-unfolding flipped
 returns c =
     let a = c .before .before .args in
     let l = c .before .loop in
     let e : l .p ≡ a .n = omega (arith, c .loop-test .left, l .inv .0) in
-    (λ _. l .inv .3 ∙ ap (λ (k : ℕ). allBelow k (still (a .n) (a .area .now))) e, λ _. written-to (l .inv .2) _ e)
+    (l .inv .3 ∙ ap (λ (k : ℕ). allBelow k (still (a .n) (a .abstained) (a .area .now))) e, written-to (l .inv .2) _ e)
 
 pub flip-spec : {M : Type 1} → statement M
 flip-spec =
@@ -168,8 +170,9 @@ flip-spec =
     (tie.spec
     Inv-loop
     μ-loop
-    sub-last
-    cast-last
+    sub-voters
+    sub-voters-2
+    cast-voters
     loop-holds
     add-if1
     mul-if1
@@ -178,7 +181,7 @@ flip-spec =
     mul-if1-2
     mul-area
     slice-copy-out-area
-    mul-t10
+    mul-t12
     slice-set-from-area
     add-p
     loop-less

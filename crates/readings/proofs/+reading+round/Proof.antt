@@ -18,7 +18,7 @@ use Rattle.told.proofs.changed.Reads as changed-reads
 use Rattle.told.specs.ToldLaws.{changed-tells}
 use Rattle.steps.proofs.cast.Reads as cast-reads
 use Rattle.flips.proofs.flip.Reads as flip-reads
-use Rattle.readings.proofs.Directions.{Round, Poll, Zeroed, Stage, Lent, Answered, Cast, From, round-of, start-long, start-from, start-poll, stage-projects, lent-ready, answered-cast, cast-front, cast-long, cast-over, cast-few, cast-more, poll-done, poll-spent}
+use Rattle.readings.proofs.Directions.{Round, Poll, Zeroed, Stage, Lent, Answered, Cast, From, round-of, start-long, start-from, start-poll, stage-projects, lent-ready, answered-cast, cast-front, cast-long, cast-over, cast-few, cast-absent, cast-more, poll-done, poll-spent}
 use Rattle.readings.proofs.Turns.{Series, Turn, Made, Flips, series, turn-first, turn-last, turn-exhausted, ready-round, made-few, made-flips, flips-bits, flips-again, flips-settled, flips-kept, read-zero, read-one, read-none}
 use Rattle.flips.proofs.settle.Reads as settle-reads
 use Rattle.readings.proofs.reading.Reads as reading
@@ -89,10 +89,10 @@ abbrev reading-μ : reading-lts.MeasureT-loop
 reading-μ m r rounds left area₀ n k₀ used₀ area k used = rounds - k
 
 abbrev round-Inv : round-lts.InvT-loop
-round-Inv m r rounds left area₀ n rest used₀ i₀ i-end area used i = Poll (round-of m r rounds left area₀) area i used
+round-Inv m r rounds left area₀ n rest used₀ abstained₀ i₀ i-end area used abstained i = Poll (round-of m r rounds left area₀) area i used abstained
 
 abbrev round-μ : round-lts.MeasureT-loop
-round-μ m r rounds left area₀ n rest used₀ i₀ i-end area used i = i-end - i
+round-μ m r rounds left area₀ n rest used₀ abstained₀ i₀ i-end area used abstained i = i-end - i
 
 -- ---- arithmetic over plain numbers: at a place of the code omega reads all that is known there
 
@@ -155,7 +155,7 @@ module _ (t : ℕ) where
 
   made : (c : Reading t reading-lts.After-known-told)
       → Made (series-of (begun c)) (turned c .loop .area) (rounded c .round .last .1 .1 .1 .1 .0) (turned c .loop .k) (turned c .loop .used)
-      (rounded c .round .result) (c .before .leaves .given .0 .0)
+      (rounded c .round .result) (c .before .leaves .given .0 .0) (c .before .leaves .given .0 .1 .0)
   made c = record {
     up = up (turned c .before .before);
     turn = turned c .loop .inv;
@@ -171,8 +171,8 @@ module _ (t : ℕ) where
   flipping c = c .before .before
 
   flipped : (c : Reading t reading-lts.After-flip)
-      → Flips (series-of (begun (flipping c))) (turned (flipping c) .loop .area) (rounded (flipping c) .round .last .1 .1 .1 .1 .0) (c .flip .last .1 .0)
-      (turned (flipping c) .loop .k) (turned (flipping c) .loop .used) (rounded (flipping c) .round .result) (flipping c .before .leaves .given .0 .0)
+      → Flips (series-of (begun (flipping c))) (turned (flipping c) .loop .area) (rounded (flipping c) .round .last .1 .1 .1 .1 .0) (c .flip .last .1 .1 .0)
+      (turned (flipping c) .loop .k) (turned (flipping c) .loop .used) (rounded (flipping c) .round .result) (flipping c .before .leaves .given .0 .0) (flipping c .before .leaves .given .0 .1 .0)
       (turned (flipping c) .before .size .result) (c .flip .result)
   flipped c = record {
     made = made (flipping c);
@@ -182,8 +182,8 @@ module _ (t : ℕ) where
   }
 
   -- the area after the flips is as long as the one given
-  flip-long : (c : Reading t reading-lts.After-flip) → length (c .flip .last .1 .0) ≡ length (begun (flipping c) .args .area .now)
-  flip-long c = c .flip .kept .1 .0 ∙ made (flipping c) .same-length ∙ made (flipping c) .turn .long
+  flip-long : (c : Reading t reading-lts.After-flip) → length (c .flip .last .1 .1 .0) ≡ length (begun (flipping c) .args .area .now)
+  flip-long c = c .flip .kept .1 .1 .0 ∙ made (flipping c) .same-length ∙ made (flipping c) .turn .long
 
   reading-zero-order-requires : Reading t reading-lts.Need-zero-order-requires
   reading-zero-order-requires c κs = (c .before .before .pre .1 .small, c .before .before .pre .1 .bits)
@@ -340,7 +340,7 @@ module _ (t : ℕ) where
   next-small : (c : Rounding t round-lts.In-loop) → c .before .loop .i + 1 ≤ 1000000
   next-small c = omega (arith, c .loop-test .taken, small (sized (first c)))
 
-  stage : (c : Rounding t round-lts.In-loop) → Stage (round-at-of (first c)) (c .before .loop .area) (c .before .loop .i) (c .before .loop .used)
+  stage : (c : Rounding t round-lts.In-loop) → Stage (round-at-of (first c)) (c .before .loop .area) (c .before .loop .i) (c .before .loop .used) (c .before .loop .abstained)
   stage c =
       let s = entry (first c) in
       record {
@@ -363,7 +363,7 @@ module _ (t : ℕ) where
 
   lent : (c : Rounding t round-lts.After-area2)
       → Lent (round-at-of (first (turn2 c))) (turn2 c .before .loop .area) (c .before .project .last .1 .1 .0)
-      (turn2 c .before .loop .i) (turn2 c .before .loop .used) (2 * half (first (turn2 c)))
+      (turn2 c .before .loop .i) (turn2 c .before .loop .used) (turn2 c .before .loop .abstained) (2 * half (first (turn2 c)))
   lent c = record {
     stage = stage (turn2 c);
     projected = c .before .project .ensures;
@@ -375,7 +375,7 @@ module _ (t : ℕ) where
 
   answered : (c : Rounding t round-lts.After-area3)
       → Answered (round-at-of (first (turn3 c))) (turn3 c .before .loop .area) (c .before .before .before .before .project .last .1 .1 .0) (c .before .reading .last .1 .1 .1 .1 .0)
-      (turn3 c .before .loop .i) (turn3 c .before .loop .used) (2 * half (first (turn3 c))) (c .before .reading .result)
+      (turn3 c .before .loop .i) (turn3 c .before .loop .used) (turn3 c .before .loop .abstained) (2 * half (first (turn3 c))) (c .before .reading .result)
   answered c = record { lent = lent (c .before .before .before); same = c .before .reading .kept .1 .1 .1 .1 .0; read = c .before .reading .ensures .0; kept = c .before .reading .ensures .1 }
 
   abbrev turn4 : Rounding t round-lts.After-area4 → Rounding t round-lts.In-loop
@@ -384,7 +384,7 @@ module _ (t : ℕ) where
   cast : (c : Rounding t round-lts.After-area4)
       → Cast (round-at-of (first (turn4 c))) (turn4 c .before .loop .area) (c .before .before .before .before .before .before .before .project .last .1 .1 .0)
       (c .before .before .before .before .reading .last .1 .1 .1 .1 .0) (c .before .cast .last .1 .1 .1 .0)
-      (turn4 c .before .loop .i) (turn4 c .before .loop .used) (2 * half (first (turn4 c))) (c .before .before .before .before .reading .result) (c .before .cast .result)
+      (turn4 c .before .loop .i) (turn4 c .before .loop .used) (turn4 c .before .loop .abstained) (2 * half (first (turn4 c))) (c .before .before .before .before .reading .result) (c .before .cast .result)
   cast c = record { answered = answered (c .before .before .before); counts = c .before .cast .ensures .0; votes = c .before .cast .ensures .1 }
 
   round-size-requires : Rounding t round-lts.Need-size-requires
@@ -463,7 +463,11 @@ module _ (t : ℕ) where
 
   round-add-used : Rounding t round-lts.Need-add-used
   round-add-used c = let d = c .before .before .before in
-      record { fits = omega (arith, entry (first (turn4 d)) .pre .1 .0 .few, cast-few (cast d) _ (c .before .leaves .given .1)) }
+      record { fits = omega (arith, entry (first (turn4 d)) .pre .1 .0 .few, cast-few (cast d) _ _ (c .before .leaves .given .1)) }
+
+  round-add-abstained : Rounding t round-lts.Need-add-abstained
+  round-add-abstained c = let d = c .before .before .before in
+      record { fits = small-fits (le-trans (cast-absent (cast d) _ _ (c .before .leaves .given .1)) (next-small (turn4 d))) }
 
   round-add-i : Rounding t round-lts.Need-add-i
   round-add-i c = record { fits = small-fits (next-small (turn4 (c .before .before .before))) }
@@ -472,7 +476,7 @@ module _ (t : ℕ) where
   round-loop-less c = closer (turn4 (c .before .before .before) .loop-test .taken)
 
   round-loop-again : Rounding t round-lts.Need-loop-again
-  round-loop-again c = cast-more (cast (c .before .before .before)) _ (c .before .leaves .given .1)
+  round-loop-again c = cast-more (cast (c .before .before .before)) _ _ (c .before .leaves .given .1)
 
   round-same-length-2 : Rounding t round-lts.Need-same-length-2
   round-same-length-2 c = c .before .loop .inv .long ∙ start-long (zeroed (c .before .before))
@@ -541,6 +545,7 @@ pub +reading+round-spec : {M : Type 1} → statement M
     (round-returns t)
     (round-enum-known-leaves t)
     (round-add-used t)
+    (round-add-abstained t)
     (round-add-i t)
     (round-loop-less t)
     (round-loop-again t)

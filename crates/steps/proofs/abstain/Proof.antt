@@ -10,6 +10,7 @@ use borrow.Author.Tests.{ne-eqb}
 use Rattle.refusals.proofs.Refusal.{the-type}
 use Rattle.refusals.specs.declared.Refusal.{Refusal}
 use Rattle.refusals.specs.declared.Refusal.the-variants.{Exponent, Order, RoundLimit, LeafLimit, InputLength, OutputLength, AreaLength, BadByte, Tie, Flipping, Unsettled, TooManyLeaves, NotCodeword, Profile, Header, Truncated}
+use Rattle.refusals.specs.CheckLaws.{number-pos}
 use Rattle.refusals.specs.Refusals.{numberOf}
 use Rattle.steps.proofs.abstain.Statement.{statement}
 use Rattle.steps.proofs.abstain.Tie as tie
@@ -47,7 +48,9 @@ returns : tie.Need-returns
 returns c = λ k. rw (c .enum-told .given .1)
 
 returns-2 : tie.Need-returns-2
-returns-2 c = λ k. rw (ne-eqb (numberOf (c .before .args .why)) 12 (not-twelve (c .before .args .why) (c .match .keys2)))
+returns-2 c =
+    let why = c .before .args .why in
+    λ k. rw (ne-eqb (numberOf why) 12 (not-twelve why (c .match .keys2)), ne-eqb (numberOf why) 0 (λ e. omega (arith, number-pos why)))
 
 pub abstain-spec : {M : Type 1} → statement M
 abstain-spec = tie.close (tie.spec enum-told returns returns-2)

@@ -64,13 +64,12 @@ fn add(counts: &mut [i16], bits: &[u8], exchange: usize) {
     }
 }
 
-/// Makes the flips; whether there were any.
-pub fn flip(word: &mut [u8], votes: &Rows<i16>) -> bool {
-    let enough = word.len() as i16 - 1;
+/// Makes the flips, where 2 × the votes are more than the voters; whether there were any.
+pub fn flip(word: &mut [u8], votes: &Rows<i16>, voters: i16) -> bool {
     let mut flipped = 0;
     for (p, bit) in word.iter_mut().enumerate() {
         let count: i16 = (0..8).map(|l| votes[l][p ^ l]).sum();
-        let flip = (2 * count > enough) as u8;
+        let flip = (2 * count > voters) as u8;
         *bit ^= flip;
         flipped |= flip;
     }

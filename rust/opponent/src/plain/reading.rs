@@ -8,6 +8,8 @@ pub struct Level {
     pub rows: Rows<u8>,
     projection: [u8; 512],
     votes: Rows<i16>,
+    /// How many directions of the round did not abstain.
+    voters: i16,
 }
 
 pub struct Workspace {
@@ -16,7 +18,7 @@ pub struct Workspace {
 
 impl Default for Workspace {
     fn default() -> Workspace {
-        let level = || Level { rows: [[0; 1024]; 8], projection: [0; 512], votes: [[0; 1024]; 8] };
+        let level = || Level { rows: [[0; 1024]; 8], projection: [0; 512], votes: [[0; 1024]; 8], voters: 0 };
         Workspace { levels: (0..11).map(|_| level()).collect() }
     }
 }
@@ -58,11 +60,12 @@ impl Reader {
             let level = &mut levels[0];
             cosets::fill_rows(n, &mut level.rows);
             level.votes.iter_mut().for_each(|row| row[..n].fill(0));
+            level.voters = 0;
             if !(1..n).all(|b| self.direction(m, r, b, levels)) {
                 return (12, 0);
             }
             let level = &mut levels[0];
-            if !cosets::flip(&mut level.rows[0][..n], &level.votes) {
+            if !cosets::flip(&mut level.rows[0][..n], &level.votes, level.voters) {
                 let settled = cosets::is_codeword(r, &level.rows[0][..n]);
                 return (if settled { 0 } else { 11 }, round);
             }
@@ -81,6 +84,7 @@ impl Reader {
             0 => {}
             refusal => return refusal != 12,
         }
+        level.voters += 1;
         let mut differs = 0;
         for (projected, decoded) in projection.iter_mut().zip(&inner[0].rows[0]) {
             *projected ^= *decoded;
