@@ -51,7 +51,7 @@ enum rm_refusals {
     RM_OUTPUT_LENGTH = 6,
     RM_AREA_LENGTH = 7,
     /* of whoever made the bytes */
-    RM_BAD_BYTE = 8,        /* a byte above 1; the answer names its place */
+    RM_BAD_BYTE = 8,        /* a byte above 1; the answer names the lowest place that holds one */
     /* the noise's */
     RM_TIE = 9,             /* two codewords are equally near */
     RM_FLIPPING = 10,       /* places still flip at the round limit */
@@ -86,7 +86,7 @@ static inline unsigned rm_mended(uint64_t answer) {
     return (unsigned)(answer >> 40 & 4095);
 }
 
-/* With refusal 8, a place of the input that holds a byte above 1. */
+/* With refusal 8, the lowest place of the input that holds a byte above 1 (an index of the message in rm_encode); 0 with any other answer. */
 static inline unsigned rm_place(uint64_t answer) {
     return (unsigned)(answer >> 52);
 }

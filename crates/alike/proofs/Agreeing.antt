@@ -8,11 +8,11 @@ use Rattle.words.specs.Word.{IsWord, addWords}
 use Rattle.refusals.specs.declared.Decoded.{Decoded}
 use Rattle.profiles.specs.Profiles.{profileOf}
 use Rattle.rule.specs.Reading.{Outcome}
-use Rattle.rule.specs.Decoding.{Values, values, answerOf, outputOf, decodeCall, decodeProfileCall}
+use Rattle.rule.specs.Decoding.{Values, values, numberIn, answerOf, outputOf, decodeCall, decodeProfileCall}
 use Rattle.rule.specs.DecodingLaws.{RightSizes}
 use Rattle.rule.specs.Calls.{Decodes, valuesOf}
 use Rattle.rule.specs.Demand3.{Agree, demand-3-call, demand-3-profile-call}
-use Rattle.alike.specs.Alike.{Differ, Fit, Alike, numberIn}
+use Rattle.alike.specs.Alike.{Differ, Fit, Alike}
 
 sizes : {m : ℕ} {w out : List ℕ} {area : List ℤ} → IsWord m w → Fit m out area → RightSizes m w (length out) (length area)
 sizes word fit = record { input = word; output = fit .output; lent = fit .lent }

@@ -7,7 +7,7 @@ use lib.IntN.{ℤ}
 use Rattle.words.specs.Word.{IsWord, addWords}
 use Rattle.refusals.specs.declared.Decoded.{Decoded}
 use Rattle.code.specs.Code.{IsCodeword}
-use Rattle.rule.specs.Decoding.{Values, values}
+use Rattle.rule.specs.Decoding.{numberIn}
 use Rattle.rule.specs.Calls.{valuesOf}
 
 -- "Two words differ by a codeword when their sum is that codeword."
@@ -20,10 +20,6 @@ pub record Differ (m r : ℕ) (w w′ : List ℕ) : Type 0 where
 pub record Fit (m : ℕ) (out : List ℕ) (area : List ℤ) : Type 0 where
   pub output : length out ≡ 2 ^ m
   pub lent : 8 * 2 ^ m ≤ length area
-
--- the refusal's number, 0 where accepted
-abbrev pub numberIn : Values → ℕ
-numberIn (values e k l) = e
 
 -- "Compared are whether each call is accepted, the refusal's number, the rounds and the leaf count as returned, and on acceptance all n
 -- output bytes": the answers a and a′ to the words w and w′, which leave the outputs v and v′

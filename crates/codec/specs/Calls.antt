@@ -5,9 +5,8 @@ use mathlib.Core.Bool.{Bool, true, false, cond}
 use mathlib.Core.List.{List}
 use lib.ListN.{length}
 use lib.Dec.{eqb}
-use Rattle.refusals.specs.declared.Refusal.the-variants.{BadByte}
 use Rattle.refusals.specs.declared.Answer.{Answer}
-use Rattle.refusals.specs.Refusals.{numberOf, answerNumber, IsBadPlace, Named, Check, firstRefusal}
+use Rattle.refusals.specs.Refusals.{numberOf, placeOf, answerNumber, answerPlace, placeNamed, Check, firstRefusal}
 use Rattle.code.specs.Code.{codeword, codewordTest, messageOf}
 use Rattle.codec_checks.specs.Checks.{encodeChecks, readChecks, testChecks}
 use Rattle.codec.specs.declared.Tested.{Tested}
@@ -20,7 +19,7 @@ outputOf number result before = cond (eqb number 0) result before
 -- a call whose checks are cs and whose result is x: its input s, the output before and after, its answer a
 pub record Calls (cs : List Check) (x s before after : List ℕ) (a : Answer) : Type 0 where
   pub number : answerNumber a ≡ firstRefusal cs
-  pub place : Named s a
+  pub place : answerPlace a ≡ placeNamed s (firstRefusal cs)
   pub output : after ≡ outputOf (firstRefusal cs) x before
 
 abbrev pub Encodes : ℕ → ℕ → List ℕ → List ℕ → List ℕ → Answer → Type 0
@@ -35,11 +34,16 @@ testedNumber Codeword = 0
 testedNumber NotCodeword = 0
 testedNumber (Refused why) = numberOf why
 
+abbrev pub testedPlace : Tested → ℕ
+testedPlace Codeword = 0
+testedPlace NotCodeword = 0
+testedPlace (Refused why) = placeOf why
+
 abbrev pub verdict : Bool → Tested
 verdict true = Codeword
 verdict false = NotCodeword
 
 pub record Tests (m r : ℕ) (word : List ℕ) (a : Tested) : Type 0 where
   pub number : testedNumber a ≡ firstRefusal (testChecks m r word)
-  pub place : (p : ℕ) → a ≡ Refused (BadByte p) → IsBadPlace word p
+  pub place : testedPlace a ≡ placeNamed word (firstRefusal (testChecks m r word))
   pub answer : firstRefusal (testChecks m r word) ≡ 0 → a ≡ verdict (codewordTest m r word)

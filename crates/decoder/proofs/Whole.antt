@@ -5,7 +5,7 @@ use mathlib.Core.Path.{_≡_, refl, sym, ap, subst, _∙_}
 use mathlib.Core.Bool.{Bool, true, false, _||_, _&&_}
 use mathlib.Core.List.{List, [], _∷_, _++_}
 use lib.Dec.{leb, eqb}
-use lib.ListN.{length, replicate}
+use lib.ListN.{length}
 use lib.IntN.{ℤ, pos}
 use borrow.Author.Tests.{eqb-true, leb-true, ne-eqb, le-leb, lt-leb}
 use Rattle.words.specs.SumLaws.{both-true}
@@ -13,22 +13,21 @@ use Rattle.words.specs.Word.{bit}
 use Rattle.words.specs.Written.{Written}
 use Rattle.area.specs.Area.{at, Front, wordOf}
 use Rattle.area.specs.AreaLaws.{front-bits, front-word}
-use Rattle.refusals.specs.CheckLaws.{code-passed, number-pos, passed, passes, rest-passes}
-use Rattle.refusals.specs.Refusals.{Check, check, Checked, answerNumber, codeChecks, firstRefusal, numberOf}
+use Rattle.refusals.specs.CheckLaws.{code-passed, number-pos, passed, next, only-8, other-place, rest-passes}
+use Rattle.refusals.specs.Refusals.{Check, check, Checked, answerNumber, answerPlace, placeNamed, codeChecks, firstRefusal, numberOf}
 use Rattle.refusals.specs.declared.Refusal.{Refusal}
-use Rattle.refusals.specs.declared.Refusal.the-variants.{BadByte}
 use Rattle.refusals.specs.declared.Answer.{Answer}
 use Rattle.refusals.specs.declared.Answer.the-variants.{Done, Refused as Refuses}
 use Rattle.refusals.specs.declared.Decoded.{Decoded}
-use Rattle.refusals.specs.declared.Decoded.the-variants.{Refused}
+use Rattle.refusals.specs.declared.Decoded.the-variants.{Accepted, Refused}
 use Rattle.profiles.specs.declared.Profile.{Profile}
 use Rattle.profiles.specs.Profiles.{profileOf}
 use Rattle.hadamard.specs.Correlation.{values as signs}
 use Rattle.rule.specs.Reading.{Outcome, accepted, refused, order1, reading}
-use Rattle.rule.specs.Decoding.{after, bufferChecks, limitChecks, limited, profileChecks, values, answerOf, outputOf, areaOf, zeros}
+use Rattle.rule.specs.Decoding.{after, bufferChecks, limitChecks, limited, profileChecks, values, numberIn, answerOf, outputOf, areaOf, zeros}
 use Rattle.rule.specs.DecodingLaws.{after-cases, buffers-passed, limited-within}
 use Rattle.rule.specs.ProfileLaws.{profile-code, profile-passes}
-use Rattle.rule.specs.Calls.{Decodes, valuesOf}
+use Rattle.rule.specs.Calls.{Decodes, valuesOf, decodedPlace}
 use Rattle.rule.specs.Counts.{leaf-most, reading-leaf, reading-noise}
 use Rattle.told.specs.Told.{Holds, Read}
 use Rattle.direct.specs.Direct.{Readable, Gives}
@@ -73,9 +72,18 @@ pub record WasRead (m r rounds leaves : ℕ) (word out : List ℕ) (xs ys us : L
   pub same : length us ≡ length ys
   pub read : Read (2 ^ m) (limited leaves (reading r m rounds (wordOf (2 ^ m) ys))) us d
 
-late-not-8 : (o : Outcome) → Late o → (k l : ℕ) → values 8 k l ≡ answerOf o → ⊥
-late-not-8 (accepted d i j) h k l e = let z : _≡_ {A = ℕ} 8 0 = cc in omega arith
-late-not-8 (refused n i j) h k l e = let z : 8 ≡ n = cc in omega arith
+late-not-8 : (o : Outcome) → Late o → numberIn (answerOf o) ≡ 8 → ⊥
+late-not-8 (accepted d i j) h e = omega arith
+late-not-8 (refused n i j) h e = omega arith
+
+-- what is not refused by 8 names no place
+no-place : (d : Decoded) → (numberIn (valuesOf d) ≡ 8 → ⊥) → decodedPlace d ≡ 0
+no-place (Accepted k l) h = refl
+no-place (Refused why k l) h = only-8 why h
+
+late-place : (word : List ℕ) (o : Outcome) (d : Decoded) → Late o → valuesOf d ≡ answerOf o → decodedPlace d ≡ placeNamed word (numberIn (answerOf o))
+late-place word o d h e =
+    no-place d (λ z. late-not-8 o h (ap numberIn (sym e) ∙ z)) ∙ sym (other-place word (numberIn (answerOf o)) (late-not-8 o h))
 
 late-area : (o : Outcome) (xs : List ℤ) → Late o → areaOf o xs ≡ zeros xs
 late-area (accepted d k l) xs h = refl
@@ -156,7 +164,7 @@ module _ (m r rounds leaves : ℕ) (word : List ℕ) where
       let late : Late result = result-late m r rounds leaves word in
       record {
         answer = g .answer;
-        place = λ p k l q. absurd (late-not-8 result late k l (ap valuesOf (sym q) ∙ g .answer));
+        place = late-place word result _ late (g .answer);
         output = g .output;
         lent = z ∙ sym (late-area result xs late);
       }
@@ -189,7 +197,7 @@ module _ {cs : List Check} {word : List ℕ} {a : Answer} (checked : Checked cs 
       (λ z. absurd (omega (arith, number-pos why)))
       (λ some. record {
         answer = ap (λ (k : ℕ). values k 0 0) (sym n);
-        place = λ p k l q. checked .place .bad p (let z : why ≡ BadByte p = cc in e ∙ ap Refuses z);
+        place = ap answerPlace (sym e) ∙ checked .place;
         output = refl;
         lent = sym (rw (first-early cs all some));
       })
@@ -227,10 +235,7 @@ module _ (number : ℕ) {p : Profile} (e : p ≡ profileOf number) (h : number �
 
   pub profile-checked : {word : List ℕ} (room area : ℕ) {a : Answer} → Checked (bufferChecks (p .m) word room area) word a
       → Checked (profileChecks number ++ bufferChecks (profileOf number .m) word room area) word a
-  profile-checked room area checked = record {
-    number = passes 14 _ _ (le-leb number 4 h) (rw e at (checked .number));
-    place = checked .place;
-  }
+  profile-checked room area checked = next 14 _ (le-leb number 4 h) (rw e at checked)
 
   pub profile-runs : (word out : List ℕ) (xs : List ℤ) → firstRefusal (bufferChecks (p .m) word (length out) (length xs)) ≡ 0
       → Runs (p .m) (p .r) (p .rounds) (p .leaves) word out xs

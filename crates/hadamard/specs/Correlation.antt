@@ -1,13 +1,12 @@
 -- Correlations, and the mask of the greatest: document 01, "A reading at order r", order 1. Assumes nothing.
 -- Values stand for the bits of a word: +1 for 0 and -1 for 1.
 use Prim.Native.Nat.{ℕ, zero, suc, _+_, _%_, _^_}
-use mathlib.Core.Bool.{cond}
 use mathlib.Core.List.{List}
 use lib.Dec.{eqb}
 use lib.Bits.{bitAnd}
 use lib.Count.{ones}
 use lib.IntN.{ℤ, pos, negsuc, negℤ}
-use Rattle.words.specs.Sum.{sumBelow, sumBelowℤ, tabulate}
+use Rattle.words.specs.Sum.{sumBelow, sumBelowℤ, firstWhere, tabulate}
 use Rattle.words.specs.Word.{bit, indicator}
 
 -- +1 for a bit 0, -1 for a bit 1
@@ -42,6 +41,5 @@ unfoldable pub countBelow : ℕ → (ℕ → ℕ) → ℕ → ℕ
 countBelow n f x = sumBelow n (λ u. indicator (eqb (f u) x))
 
 -- the first of the places below n where f is x, and n where there is none
-unfoldable pub firstBelow : ℕ → (ℕ → ℕ) → ℕ → ℕ
-firstBelow zero f x = 0
-firstBelow (suc n) f x = let u : ℕ = firstBelow n f x in cond (eqb (f u) x) u (suc n)
+abbrev pub firstBelow : ℕ → (ℕ → ℕ) → ℕ → ℕ
+firstBelow n f x = firstWhere n (λ u. eqb (f u) x)

@@ -3,13 +3,14 @@ use Prim.Native.Nat.{ℕ, zero, suc, _+_, _-_, _≤_, _<_, max}
 use mathlib.Core.Path.{_≡_, refl, sym, ap, _∙_}
 use mathlib.Core.Logic.{_≢_, _⊎_, inl, inr, ⊎-elim}
 use native.Mathlib.Decide.{ℕ-discrete}
-use native.Mathlib.Nat.{not-suc-le-zero, le-refl, eq-or-lt-of-le}
+use native.Mathlib.Nat.{not-suc-le-zero, le-refl}
 use native.Mathlib.Numerals.{add-one}
 use native.Mathlib.Omega.{arith}
 use lib.Dec.{eqb}
-use borrow.Author.Tests.{eq-eqb, ne-eqb}
+use borrow.Author.Tests.{eq-eqb, ne-eqb, eqb-true, eqb-false}
 use Rattle.words.specs.Sum.{greatestBelow, total}
 use Rattle.words.specs.SumLaws.{le-or-lt, split-last, sum-prefix, sum-zero}
+use Rattle.words.specs.Search.{First, where-first}
 use Rattle.words.specs.Word.{indicator}
 use Rattle.hadamard.specs.Correlation.{countBelow, firstBelow}
 
@@ -60,29 +61,18 @@ module _ (f : ℕ → ℕ) where
 
 -- ---- the first place with value x
 
--- u is the first place below n with value x, and n where there is none
-pub record First (n : ℕ) (f : ℕ → ℕ) (x u : ℕ) : Type 0 where
-  pub within : u ≤ n
-  pub before : (v : ℕ) → v < u → f v ≢ x
-  pub found : u < n → f u ≡ x
+module _ (f : ℕ → ℕ) (x n : ℕ) where
+  first : First n (λ u. eqb (f u) x) (firstBelow n f x)
+  first = where-first n (λ u. eqb (f u) x)
 
-module _ (f : ℕ → ℕ) (x : ℕ) where
-  pub first-is : (n : ℕ) → First n f x (firstBelow n f x)
-  unfolding firstBelow
-  first-is zero = record { within = le-refl 0; before = λ v l. absurd (not-suc-le-zero l); found = λ l. absurd (not-suc-le-zero l) }
-  first-is (suc n) =
-      let h = first-is n in
-      let u : ℕ = firstBelow n f x in
-      elim (ℕ-discrete (f u) x) [
-        | yes e ↦ rw (eq-eqb (f u) x e) (record { within = omega (arith, h .within); before = h .before; found = λ l. e })
-        | no k ↦
-            let last : u ≡ n = ⊎-elim (λ e. e) (λ l. absurd (k (h .found l))) (eq-or-lt-of-le (h .within)) in
-            rw (ne-eqb (f u) x k) (record {
-              within = le-refl (suc n);
-              before = split-last n (λ (v : ℕ). f v ≢ x) (λ v l. h .before v (omega arith)) (rw last at k);
-              found = λ l. absurd (omega arith);
-            })
-      ]
+  pub first-within : firstBelow n f x ≤ n
+  first-within = first .within
+
+  not-before : (v : ℕ) → v < firstBelow n f x → f v ≢ x
+  not-before v l = eqb-false (f v) x (first .before v l)
+
+  is-found : firstBelow n f x < n → f (firstBelow n f x) ≡ x
+  is-found l = eqb-true (f (firstBelow n f x)) x (first .found l)
 
 -- ---- how many places have value x
 
@@ -128,15 +118,12 @@ module _ {n : ℕ} {f : ℕ → ℕ} where
       v : ℕ
       v = firstBelow n f (f u)
 
-      s : First n f (f u) v
-      s = first-is f (f u) n
-
       go : (v ≤ u) ⊎ (u < v) → v ≡ u
       go (inl l) = elim (ℕ-discrete v u) [
         | yes e ↦ e
-        | no k ↦ absurd (omega (arith, h .below, s .found (omega (arith, h .below)), h .others v (omega (arith, h .below)) k))
+        | no k ↦ absurd (omega (arith, h .below, is-found f (f u) n (omega (arith, h .below)), h .others v (omega (arith, h .below)) k))
       ]
-      go (inr l) = absurd (s .before u l refl)
+      go (inr l) = absurd (not-before f (f u) n u l refl)
 
   pub shared-greatest : (h : Shared n f) → greatestBelow n f ≡ f (h .first)
   shared-greatest h = greatest-at f n (h .first) (h .first-below) (h .most)
@@ -165,11 +152,8 @@ peak (suc n) f h = go (le-or-lt (n - u) k)
     u : ℕ
     u = firstBelow (suc n) f g
 
-    s : First (suc n) f g u
-    s = first-is f g (suc n)
-
     u-lt : u < suc n
-    u-lt = let (i, l, e) = greatest-met f n in ⊎-elim (λ (q : u ≤ i). omega arith) (λ q. absurd (s .before i q e)) (le-or-lt u i)
+    u-lt = let (i, l, e) = greatest-met f n in ⊎-elim (λ (q : u ≤ i). omega arith) (λ q. absurd (not-before f g (suc n) i q e)) (le-or-lt u i)
 
     -- the first place of those after u
     after : ℕ → ℕ
@@ -178,26 +162,23 @@ peak (suc n) f h = go (le-or-lt (n - u) k)
     k : ℕ
     k = firstBelow (n - u) after g
 
-    t : First (n - u) after g k
-    t = first-is after g (n - u)
-
     no-other : n - u ≤ k → (v : ℕ) → v < suc n → v ≢ u → f v ≢ g
     no-other l v lv ne e =
         ⊎-elim
-        (λ (q : v ≤ u). s .before v (omega arith) e)
-        (λ (q : u < v). let back : suc u + (v - suc u) ≡ v = omega arith in t .before (v - suc u) (omega arith) (ap f back ∙ e))
+        (λ (q : v ≤ u). not-before f g (suc n) v (omega arith) e)
+        (λ (q : u < v). let back : suc u + (v - suc u) ≡ v = omega arith in not-before after g (n - u) (v - suc u) (omega arith) (ap f back ∙ e))
         (le-or-lt v u)
 
     go : (n - u ≤ k) ⊎ (k < n - u) → Alone (suc n) f u ⊎ Shared (suc n) f
-    go (inl l) = inl (record { below = u-lt; others = λ v lv ne. omega (arith, no-other l v lv ne, greatest-bound f (suc n) v lv, s .found u-lt) })
+    go (inl l) = inl (record { below = u-lt; others = λ v lv ne. omega (arith, no-other l v lv ne, greatest-bound f (suc n) v lv, is-found f g (suc n) u-lt) })
     go (inr l) = inr (record {
       first = u;
       second = suc u + k;
       first-below = u-lt;
       second-below = omega arith;
       apart = λ e. omega arith;
-      equal = s .found u-lt ∙ sym (t .found l);
-      most = λ v lv. omega (arith, greatest-bound f (suc n) v lv, s .found u-lt);
+      equal = is-found f g (suc n) u-lt ∙ sym (is-found after g (n - u) l);
+      most = λ v lv. omega (arith, greatest-bound f (suc n) v lv, is-found f g (suc n) u-lt);
     })
 
 -- so it is met once exactly where some place is alone

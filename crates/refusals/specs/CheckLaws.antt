@@ -1,15 +1,17 @@
 -- Laws of the checks of a call: what each test on the way says of the number of the first that fails. Assumes nothing.
-use Prim.Native.Nat.{ℕ, zero, suc, _^_, _≤_, _<_}
+use Prim.Native.Nat.{ℕ, zero, suc, _≤_, _<_}
 use native.Mathlib.Omega.{arith}
 use native.Mathlib.Decide.{decLt}
-use mathlib.Core.Path.{_≡_, refl, sym, ap, _∙_, subst}
-use mathlib.Core.Bool.{Bool, true, false}
+use mathlib.Core.Path.{_≡_, refl, sym, ap, _∙_}
+use mathlib.Core.Bool.{Bool, true, false, not, _&&_, false≢true}
 use mathlib.Core.List.{List, [], _∷_, _++_}
 use lib.ListN.{length, List·getD-eq-default}
-use borrow.Author.Tests.{le-leb, lt-leb, leb-true, eqb-true, ltb-true, lt-ltb, le-ltb}
-use Rattle.words.specs.SumLaws.{all-true, true-all, some-false}
-use Rattle.words.specs.Word.{bit, Scanned}
-use Rattle.refusals.specs.Refusals.{IsBadPlace, Named, Checked, numberOf, answerNumber, Check, check, firstRefusal, codeChecks, allBits, byteChecks}
+use lib.Dec.{eqb}
+use borrow.Author.Tests.{le-leb, lt-leb, leb-true, eq-eqb, ne-eqb, ltb-true, lt-ltb, le-ltb}
+use Rattle.words.specs.SumLaws.{all-true, true-all, some-false, both-true}
+use Rattle.words.specs.Word.{bit, lowestBad}
+use Rattle.words.specs.Search.{lowest-above, lowest-before}
+use Rattle.refusals.specs.Refusals.{Checked, numberOf, placeOf, answerNumber, answerPlace, placeNamed, Check, check, firstRefusal, codeChecks, allBits, byteChecks}
 use Rattle.refusals.specs.declared.Refusal.{Refusal}
 use Rattle.refusals.specs.declared.Refusal.the-variants.{Exponent, Order, RoundLimit, LeafLimit, InputLength, OutputLength, AreaLength, BadByte, Tie, Flipping, Unsettled, TooManyLeaves, NotCodeword, Profile, Header, Truncated}
 use Rattle.refusals.specs.declared.Answer.{Answer}
@@ -102,11 +104,33 @@ module _ (m r : ℕ) where
 
 -- ---- the place that 8 names
 
-pub other-place : (s : List ℕ) (a : Answer) → (answerNumber a ≡ 8 → ⊥) → Named s a
-other-place s a h = record { bad = λ p e. absurd (h (ap answerNumber e)) }
+-- any other number names none
+pub other-place : (s : List ℕ) (n : ℕ) → (n ≡ 8 → ⊥) → placeNamed s n ≡ 0
+unfolding placeNamed
+other-place s n h = rw (ne-eqb n 8 h)
 
-pub named-place : {s : List ℕ} {p : ℕ} → IsBadPlace s p → Named s (Refused (BadByte p))
-named-place {s} {p} h = record { bad = λ q e. subst (IsBadPlace s) (cc) h }
+pub bad-place : (s : List ℕ) → placeNamed s 8 ≡ lowestBad s
+unfolding placeNamed
+bad-place s = refl
+
+-- only 8 holds a place
+pub only-8 : (why : Refusal) → (numberOf why ≡ 8 → ⊥) → placeOf why ≡ 0
+only-8 Exponent h = refl
+only-8 Order h = refl
+only-8 RoundLimit h = refl
+only-8 LeafLimit h = refl
+only-8 InputLength h = refl
+only-8 OutputLength h = refl
+only-8 AreaLength h = refl
+only-8 (BadByte p) h = absurd (h refl)
+only-8 Tie h = refl
+only-8 Flipping h = refl
+only-8 Unsettled h = refl
+only-8 TooManyLeaves h = refl
+only-8 NotCodeword h = refl
+only-8 Profile h = refl
+only-8 Header h = refl
+only-8 Truncated h = refl
 
 pub number-pos : (why : Refusal) → 0 < numberOf why
 number-pos Exponent = omega arith
@@ -140,45 +164,72 @@ bits-tested s e q = elim (decLt q (length s)) [
   | no b ↦ rw (List·getD-eq-default s 0 {n = q} (omega arith)) (omega arith)
 ]
 
-module _ (s : List ℕ) (p : ℕ) (h : Scanned s p) where
-  pub bytes-fail : p < length s → 8 ≡ firstRefusal (byteChecks s)
+module _ (s : List ℕ) where
+  pub bytes-fail : lowestBad s < length s → 8 ≡ firstRefusal (byteChecks s)
   unfolding allBits
-  bytes-fail l = fails 8 _ _ (some-false (length s) _ p l (le-ltb (bit s p) 2 (h .found l)))
+  bytes-fail l = fails 8 _ _ (some-false (length s) _ (lowestBad s) l (le-ltb (bit s (lowestBad s)) 2 (lowest-above s l)))
 
-  pub bytes-pass : length s ≤ p → 0 ≡ firstRefusal (byteChecks s)
+  within-pass : ((q : ℕ) → q < length s → bit s q < 2) → 0 ≡ firstRefusal (byteChecks s)
   unfolding allBits
-  bytes-pass l = passes 8 _ _ (true-all (length s) _ (λ q b. lt-ltb (bit s q) 2 (h .before q (omega arith)))) no-more
+  within-pass h = passes 8 _ _ (true-all (length s) _ (λ q b. lt-ltb (bit s q) 2 (h q b))) no-more
 
-pub bits-pass : (s : List ℕ) → ((p : ℕ) → bit s p < 2) → 0 ≡ firstRefusal (byteChecks s)
-bits-pass s h =
-    bytes-pass s (length s) record { within = omega arith; before = λ q l. h q; found = λ l. absurd (omega arith) } (omega arith)
+  pub bytes-pass : length s ≤ lowestBad s → 0 ≡ firstRefusal (byteChecks s)
+  bytes-pass l = within-pass (λ q b. lowest-before s q (omega arith))
+
+  pub bits-pass : ((p : ℕ) → bit s p < 2) → 0 ≡ firstRefusal (byteChecks s)
+  bits-pass h = within-pass (λ q b. h q)
 
 -- ---- what a checking function answers
 
 pub all-pass : {cs : List Check} {s : List ℕ} → 0 ≡ firstRefusal cs → Checked cs s Done
-all-pass {cs} {s} e = record { number = e; place = other-place s Done (λ z. absurd (omega arith)) }
+all-pass {cs} {s} e = record { number = e; place = rw (← e) (sym (other-place s 0 (λ z. omega arith))) }
 
 -- a refusal other than 8
 pub refuses : {cs : List Check} {s : List ℕ} (why : Refusal) → (numberOf why ≡ 8 → ⊥) → numberOf why ≡ firstRefusal cs → Checked cs s (Refused why)
-refuses {cs} {s} why h e = record { number = e; place = other-place s (Refused why) h }
+refuses {cs} {s} why h e = record { number = e; place = rw (← e) (only-8 why h ∙ sym (other-place s (numberOf why) h)) }
+
+-- 8
+pub names : {s : List ℕ} {p : ℕ} → p ≡ lowestBad s → p < length s → Checked (byteChecks s) s (Refused (BadByte p))
+names {s} {p} e l =
+    let f : 8 ≡ firstRefusal (byteChecks s) = bytes-fail s (omega arith) in
+    record { number = f; place = rw (← f) (e ∙ sym (bad-place s)) }
+
+-- a check before the others passes
+pub next : (n : ℕ) (ok : Bool) {cs : List Check} {s : List ℕ} {a : Answer} → ok ≡ true → Checked cs s a → Checked (check n ok ∷ cs) s a
+next n ok {cs} {s} e c =
+    let f : firstRefusal cs ≡ firstRefusal (check n ok ∷ cs) = passes n ok cs e refl in
+    record { number = c .number ∙ f; place = c .place ∙ ap (placeNamed s) f }
+
+-- no check has the number 8
+abbrev pub placeless : List Check → Bool
+placeless [] = true
+placeless (check n ok ∷ cs) = not (eqb n 8) && placeless cs
+
+placeless-number : (cs : List Check) → placeless cs ≡ true → firstRefusal cs ≡ 8 → ⊥
+unfolding firstRefusal
+placeless-number [] h e = omega arith
+placeless-number (check n true ∷ cs) h e = placeless-number cs (both-true (not (eqb n 8)) (placeless cs) h .1) e
+placeless-number (check n false ∷ cs) h e = false≢true (ap not (sym (eq-eqb n 8 e)) ∙ both-true (not (eqb n 8)) (placeless cs) h .0)
 
 -- a refusal of the first group of checks, which names no place
-pub stops : {cs : List Check} (ds : List Check) (s : List ℕ) {a : Answer} {why : Refusal} → Checked cs [] a → a ≡ Refused why → Checked (cs ++ ds) s (Refused why)
-stops {cs} ds s {a} {why} c e = record {
-  number = already cs ds (number-pos why) (ap answerNumber (sym e) ∙ c .number);
-  place = record { bad = λ p q. absurd (omega (arith, c .place .bad p (e ∙ q) .within)) };
-}
+pub stops :
+    {cs : List Check} (ds : List Check) (s : List ℕ) {a : Answer} {why : Refusal} → placeless cs ≡ true → Checked cs [] a → a ≡ Refused why
+    → Checked (cs ++ ds) s (Refused why)
+stops {cs} ds s {a} {why} h c e =
+    let n : numberOf why ≡ firstRefusal cs = ap answerNumber (sym e) ∙ c .number in
+    refuses why (λ z. placeless-number cs h (sym n ∙ z)) (already cs ds (number-pos why) n)
 
 -- a refusal of any of the first group of checks, of the same input
 pub stops-at : {cs : List Check} (ds : List Check) {s : List ℕ} {a : Answer} {why : Refusal} → Checked cs s a → a ≡ Refused why → Checked (cs ++ ds) s (Refused why)
-stops-at {cs} ds {s} {a} {why} c e = record {
-  number = already cs ds (number-pos why) (ap answerNumber (sym e) ∙ c .number);
-  place = subst (Named s) e (c .place);
-}
+stops-at {cs} ds {s} {a} {why} c e =
+    let n : firstRefusal cs ≡ firstRefusal (cs ++ ds) = already cs ds (omega (arith, number-pos why, ap answerNumber e, c .number)) refl in
+    record { number = ap answerNumber (sym e) ∙ c .number ∙ n; place = ap answerPlace (sym e) ∙ c .place ∙ ap (placeNamed s) n }
 
 -- the first group of checks passes
 pub goes-on : {cs : List Check} (ds : List Check) {s₀ s : List ℕ} {a b : Answer} → Numbered cs → Checked cs s₀ a → a ≡ Done → Checked ds s b → Checked (cs ++ ds) s b
-goes-on {cs} ds t c e d = record { number = then cs ds t (ap answerNumber (sym e) ∙ c .number) (d .number); place = d .place }
+goes-on {cs} ds {s = s} t c e d =
+    let n : firstRefusal ds ≡ firstRefusal (cs ++ ds) = then cs ds t (ap answerNumber (sym e) ∙ c .number) refl in
+    record { number = d .number ∙ n; place = d .place ∙ ap (placeNamed s) n }
 
 pub code-done : {m r : ℕ} {s : List ℕ} {a : Answer} → Checked (codeChecks m r) s a → a ≡ Done → IsCode m r
 code-done {m} {r} c e = code-passed m r [] (sym (ap answerNumber (sym e) ∙ c .number)) .0

@@ -1,12 +1,12 @@
 -- Document 01, "Refusals by who causes them": the numbers, and checks in order. Assumes nothing.
-use Prim.Native.Nat.{ℕ, _<_}
+use Prim.Native.Nat.{ℕ}
 use mathlib.Core.Path.{_≡_}
 use mathlib.Core.Bool.{Bool, cond}
 use mathlib.Core.List.{List, [], _∷_}
 use lib.ListN.{length}
-use lib.Dec.{leb, ltb}
+use lib.Dec.{leb, ltb, eqb}
 use Rattle.words.specs.Sum.{allBelow}
-use Rattle.words.specs.Word.{bit}
+use Rattle.words.specs.Word.{bit, lowestBad}
 use Rattle.refusals.specs.declared.Refusal.{Refusal}
 use Rattle.refusals.specs.declared.Refusal.the-variants.{Exponent, Order, RoundLimit, LeafLimit, InputLength, OutputLength, AreaLength, BadByte, Tie, Flipping, Unsettled, TooManyLeaves, NotCodeword, Profile, Header, Truncated}
 use Rattle.refusals.specs.declared.Answer.{Answer}
@@ -55,14 +55,14 @@ abbrev pub answerNumber : Answer → ℕ
 answerNumber Done = 0
 answerNumber (Refused why) = numberOf why
 
--- "8: a byte of the input above 1. The answer names a place that holds one."
-pub record IsBadPlace (s : List ℕ) (p : ℕ) : Type 0 where
-  pub within : p < length s
-  pub above : 1 < bit s p
+-- 0 where nothing is refused
+abbrev pub answerPlace : Answer → ℕ
+answerPlace Done = 0
+answerPlace (Refused why) = placeOf why
 
--- where an answer is 8, it names such a place of s
-pub record Named (s : List ℕ) (a : Answer) : Type 0 where
-  pub bad : (p : ℕ) → a ≡ Refused (BadByte p) → IsBadPlace s p
+-- document 02, request 1: "8 names the smallest place whose byte is above 1": the place that an answer of this number to the input s names
+unfoldable pub placeNamed : List ℕ → ℕ → ℕ
+placeNamed s number = cond (eqb number 8) (lowestBad s) 0
 
 -- ---- checks, "in order of checking"
 
@@ -89,4 +89,4 @@ byteChecks s = check 8 (allBits s) ∷ []
 -- what a function that makes the checks cs of a call with the input s answers
 pub record Checked (cs : List Check) (s : List ℕ) (a : Answer) : Type 0 where
   pub number : answerNumber a ≡ firstRefusal cs
-  pub place : Named s a
+  pub place : answerPlace a ≡ placeNamed s (firstRefusal cs)

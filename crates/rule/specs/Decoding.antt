@@ -1,7 +1,7 @@
 -- The decoder's answer under its limits, for every call: document 01, "A reading at order r", its end, and "Refusals by who causes them".
 -- Assumes nothing.
 use Prim.Native.Nat.{ℕ, _*_, _^_}
-use mathlib.Core.Bool.{Bool, cond, _||_}
+use mathlib.Core.Bool.{cond, _||_}
 use mathlib.Core.List.{List, [], _∷_, _++_}
 use lib.ListN.{length, replicate}
 use lib.Dec.{leb, ltb, eqb}
@@ -61,6 +61,9 @@ module _ (number : ℕ) where
 -- a refusal's number, 0 where accepted; the rounds; the leaf count
 pub data Values : Type 0 where
   values : ℕ → ℕ → ℕ → Values
+
+abbrev pub numberIn : Values → ℕ
+numberIn (values e k l) = e
 
 abbrev pub answerOf : Outcome → Values
 answerOf (accepted d k l) = values 0 k l

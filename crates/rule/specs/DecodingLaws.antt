@@ -1,11 +1,9 @@
 -- The decoder's answer under its limits: laws of the leaf limit and of the checks before a reading, and calls in buffers of the right sizes.
 -- Assumes nothing.
-use Prim.Native.Nat.{ℕ, zero, suc, _*_, _^_, _≤_, _<_}
-use mathlib.Core.Path.{_≡_, refl, sym}
+use Prim.Native.Nat.{ℕ, _*_, _^_, _≤_, _<_}
+use mathlib.Core.Path.{_≡_, refl}
 use mathlib.Core.Bool.{Bool, true, false, cond}
-use mathlib.Core.List.{List, [], _∷_, _++_}
-use native.Mathlib.Decide.{decLt}
-use native.Mathlib.Nat.{le-refl}
+use mathlib.Core.List.{List, _++_}
 use native.Mathlib.Omega.{arith}
 use lib.Dec.{ltb, eqb}
 use lib.ListN.{length}
@@ -14,8 +12,8 @@ use Rattle.rule.specs.Decoding.{after, bufferChecks, decodeCall, decodeO
 use Rattle.rule.specs.Outcomes.{leaves-shift, shift}
 use Rattle.rule.specs.Reading.{Outcome, leavesOf, refused}
 use Rattle.profiles.specs.Profiles.{profileOf}
-use Rattle.refusals.specs.CheckLaws.{already, bits-tested, bytes-pass, passed, passes, rest-passes}
-use Rattle.refusals.specs.Refusals.{Check, check, codeChecks, firstRefusal}
+use Rattle.refusals.specs.CheckLaws.{bits-tested, bits-pass, passed, passes, rest-passes}
+use Rattle.refusals.specs.Refusals.{Check, codeChecks, firstRefusal}
 use Rattle.words.specs.Word.{IsWord}
 
 shift-cond : (c : List ℕ) (t : Bool) (x y : Outcome) → cond t (shift c x) (shift c y) ≡ shift c (cond t x y)
@@ -86,7 +84,7 @@ module _ {m : ℕ} {word : List ℕ} {room area : ℕ} (h : RightSizes m word ro
       passes _ _ _ (eq-eqb (length word) (2 ^ m) (h .input .size))
       (passes _ _ _ (eq-eqb room (2 ^ m) (h .output))
       (passes _ _ _ (le-leb (8 * 2 ^ m) area (h .lent))
-      (bytes-pass word (length word) (record { within = le-refl (length word); before = λ q l. h .input .bits q; found = λ l. absurd (omega arith) }) (le-refl (length word)))))
+      (bits-pass word (h .input .bits))))
 
   pub call-is : (r rounds leaves : ℕ) → decodeCall m r rounds leaves word room area ≡ decodeOf m r rounds leaves word
   unfolding decodeCall decodeOf

@@ -10,8 +10,8 @@ use Rattle.code.specs.Code.{codewordTest, coefficient, lowTest}
 use Rattle.rule.specs.Reading.{Outcome, abstained, accepted, flipped, flips, order1, reading, refused, roundLeaves, rounds, votes}
 use Rattle.rule.specs.Rounds.{SameBallot, flips-same, leaves-same, rounds-none, rounds-step, settled, still}
 use Rattle.direction.specs.Direction.{cosetOf, deleteBit, highest, insertZero, project, representative}
-use Rattle.hadamard.specs.Correlation.{affine, correlation, countBelow, firstBelow}
-use Rattle.words.specs.Sum.{tabulate, total}
+use Rattle.hadamard.specs.Correlation.{affine, correlation, countBelow}
+use Rattle.words.specs.Sum.{firstWhere, tabulate, total}
 use Rattle.words.specs.SumLaws.{getD-tabulate}
 use Rattle.words.specs.Word.{addWords}
 
@@ -48,7 +48,7 @@ record Leaves (limit : ℕ) : Type 0 where
   second-read : reading 1 3 limit (zeros 8) ≡ accepted (zeros 8) 0 1
 
 leaves : (limit : ℕ) → Leaves limit
-unfolding project tabulate insertZero highest leadingZeros reading order1 countBelow firstBelow correlation affine total ones onesIn
+unfolding project tabulate insertZero highest leadingZeros reading order1 countBelow firstWhere correlation affine total ones onesIn
 leaves limit = record { first = refl; second = refl; first-read = refl; second-read = refl }
 
 -- the rounds at order 2

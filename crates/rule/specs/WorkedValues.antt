@@ -15,9 +15,9 @@ use Rattle.rule.specs.Outcomes.{shift}
 use Rattle.rule.specs.WorkedRounds.{four-rounds, mended, one-round-only, stopped, wrong, zeros}
 use Rattle.rule.specs.WorkedVotes.{four-wrong, left-alone, nine-mended, nine-wrong}
 use Rattle.direction.specs.Direction.{cosetOf, deleteBit, highest, insertZero, project, representative}
-use Rattle.hadamard.specs.Correlation.{affine, correlation, countBelow, firstBelow}
+use Rattle.hadamard.specs.Correlation.{affine, correlation, countBelow}
 use Rattle.refusals.specs.Refusals.{firstRefusal}
-use Rattle.words.specs.Sum.{tabulate, total}
+use Rattle.words.specs.Sum.{firstWhere, tabulate, total}
 use Rattle.words.specs.Word.{addWords, indicator}
 use Rattle.words.specs.WordLaws.{indicator-lt, word-tabulate}
 
@@ -136,7 +136,7 @@ unfolding cast decodeOf after firstRefusal
 cast-values = cc (ap (limited 1000000) (left-alone 3), ap (limited 1000000) (nine-mended 2))
 
 small-values : map valued (marked ++ sixteen ++ beside) ≡ marked ++ sixteen ++ beside
-unfolding marked sixteen beside decodeOf after firstRefusal codewordTest lowTest coefficient project tabulate insertZero highest leadingZeros reading rounds votes abstained flipped flips roundLeaves order1 order0 countBelow firstBelow correlation affine total ones onesIn cosetOf representative deleteBit addWords codeword monomial rank spread
+unfolding marked sixteen beside decodeOf after firstRefusal codewordTest lowTest coefficient project tabulate insertZero highest leadingZeros reading rounds votes abstained flipped flips roundLeaves order1 order0 countBelow firstWhere correlation affine total ones onesIn cosetOf representative deleteBit addWords codeword monomial rank spread
 small-values = refl
 
 pub worked-values : map valued table ≡ table

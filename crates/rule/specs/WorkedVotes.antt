@@ -21,7 +21,7 @@ use Rattle.hadamard.specs.Correlation.{affine, constantOf, correlation, countBe
 use Rattle.hadamard.specs.Peak.{Alone, Shared, alone-count, alone-first, alone-moved, peak, shared-count, shared-moved}
 use Rattle.hadamard.specs.Transform.{sums, halved-correlation}
 use Rattle.words.specs.Butterflies.{butterflies, halved}
-use Rattle.words.specs.Sum.{allBelow, greatestBelow, sumBelow, tabulate, total}
+use Rattle.words.specs.Sum.{allBelow, firstWhere, greatestBelow, sumBelow, tabulate, total}
 use Rattle.words.specs.SumLaws.{getD-tabulate, length-tabulate, sum-ext, sumℤ-ext, tabulate-ext}
 use Rattle.words.specs.Word.{addWords, bit, indicator}
 
@@ -116,7 +116,7 @@ four-wrong = 1 ∷ 1 ∷ 1 ∷ 0 ∷ 1 ∷ zeros 27
 
 -- directions 1 to 6, each between two of the four places, give zeros; all others tie. Each of the four has 3 of the 6 votes: equality.
 equal : Given 4 four-wrong (λ i. cond (ltb i 6) (accepted (zeros 16) 0 1) (refused 9 0 1)) (zeros 32)
-unfolding transformed sums halved butterflies project tabulate insertZero highest leadingZeros countBelow firstBelow affine total ones onesIn flipped cosetOf representative deleteBit
+unfolding transformed sums halved butterflies project tabulate insertZero highest leadingZeros countBelow firstWhere affine total ones onesIn flipped cosetOf representative deleteBit
 equal = record { told = refl; flip = refl }
 
 pub left-alone : (left : ℕ) → reading 2 5 (suc left) four-wrong ≡ refused 11 1 31
@@ -131,7 +131,7 @@ nine-wrong = tabulate 64 (λ p. 001000000011000011000000000000000000000100010100
 
 -- 27 directions, the ones of this number, tie; all others give zeros, and each of the nine places has more than half of their 36 votes
 more : Given 5 nine-wrong (λ i. cond (eqb (13848372110637000844 / 2 ^ suc i % 2) 1) (refused 9 0 1) (accepted (zeros 32) 0 1)) nine-wrong
-unfolding transformed sums halved butterflies project tabulate insertZero highest leadingZeros countBelow firstBelow affine total ones onesIn flipped cosetOf representative deleteBit
+unfolding transformed sums halved butterflies project tabulate insertZero highest leadingZeros countBelow firstWhere affine total ones onesIn flipped cosetOf representative deleteBit
 more = record { told = refl; flip = refl }
 
 -- zeros stay
@@ -140,7 +140,7 @@ record Clean : Type 0 where
   zero : byList 5 (transformed 5 (zeros 32)) ≡ accepted (zeros 32) 0 1
 
 clean : Clean
-unfolding transformed sums halved butterflies project tabulate insertZero highest leadingZeros countBelow firstBelow affine total ones onesIn
+unfolding transformed sums halved butterflies project tabulate insertZero highest leadingZeros countBelow firstWhere affine total ones onesIn
 clean = record { all = refl; zero = refl }
 
 module _ (limit left : ℕ) where

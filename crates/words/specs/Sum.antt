@@ -1,6 +1,6 @@
 -- Finite sums and tests, and lists given by a function. Assumes nothing.
 use Prim.Native.Nat.{ℕ, zero, suc, _+_, max}
-use mathlib.Core.Bool.{Bool, true, _&&_}
+use mathlib.Core.Bool.{Bool, true, _&&_, cond}
 use mathlib.Core.List.{List, [], _∷_, _++_}
 use lib.IntN.{ℤ, pos, _+ℤ_}
 
@@ -23,6 +23,11 @@ greatestBelow n f = total max 0 n f
 -- every one of f 0, .., f (n - 1) is true
 abbrev pub allBelow : ℕ → (ℕ → Bool) → Bool
 allBelow n f = total _&&_ true n f
+
+-- the first of the places below n where the test f holds, and n where it holds at none
+unfoldable pub firstWhere : ℕ → (ℕ → Bool) → ℕ
+firstWhere zero f = 0
+firstWhere (suc n) f = let p : ℕ = firstWhere n f in cond (f p) p (suc n)
 
 -- the list f 0, .., f (n - 1)
 unfoldable pub tabulate : {A : Type 0} → ℕ → (ℕ → A) → List A

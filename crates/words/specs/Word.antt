@@ -1,10 +1,11 @@
 -- Words. Document 01, "The codes and what surrounds them". Assumes nothing.
-use Prim.Native.Nat.{ℕ, _+_, _%_, _^_, _<_, _≤_}
+use Prim.Native.Nat.{ℕ, _+_, _%_, _^_, _<_}
 use mathlib.Core.Path.{_≡_}
 use mathlib.Core.Bool.{Bool, cond}
 use mathlib.Core.List.{List, [], _∷_}
+use lib.Dec.{ltb}
 use lib.ListN.{length, getD}
-use Rattle.words.specs.Sum.{sumBelow}
+use Rattle.words.specs.Sum.{sumBelow, firstWhere}
 
 -- the byte at place p; 0 past the end
 abbrev pub bit : List ℕ → ℕ → ℕ
@@ -14,11 +15,9 @@ bit w p = getD w p 0
 abbrev pub indicator : Bool → ℕ
 indicator b = cond b 1 0
 
--- p is the first place of s whose byte is above 1, or the length of s
-pub record Scanned (s : List ℕ) (p : ℕ) : Type 0 where
-  pub within : p ≤ length s
-  pub before : (q : ℕ) → q < p → bit s q < 2
-  pub found : p < length s → 1 < bit s p
+-- document 02, request 1: "the smallest place whose byte is above 1"; the length of s where there is none
+unfoldable pub lowestBad : List ℕ → ℕ
+lowestBad s = firstWhere (length s) (λ p. ltb 1 (bit s p))
 
 -- "A word is n bytes, one a place, each 0 or 1", n = 2 ^ m
 pub record IsWord (m : ℕ) (w : List ℕ) : Type 0 where

@@ -4,7 +4,7 @@ ghost use Prim.Native.Nat.{_^_, _≤_};
 ghost use lib.ListN.{length};
 ghost use lib.Dec.{ltb};
 ghost use Rattle.words.specs.Sum.{allBelow};
-ghost use Rattle.words.specs.Word.{Scanned, bit};
+ghost use Rattle.words.specs.Word.{lowestBad, bit};
 
 // The number of places of a word of exponent m.
 pub fn size(m: usize) -> usize
@@ -27,7 +27,7 @@ fn all_bits(s: &[u8]) -> bool
 
 // The first place whose byte is above 1, or the length of s.
 pub fn bad_place(s: &[u8]) -> usize
-    ensures { λ p. ⌜ Scanned (now (s .entry)) p ⌝ }
+    ensures { λ p. ⌜ p ≡ lowestBad (now (s .entry)) ⌝ }
 {
     if all_bits(s) {
         return s.len();

@@ -119,6 +119,18 @@ pub fn many(c: &mut Comparison, seed: u64, calls: usize) -> Result<(), Disagreem
     Ok(())
 }
 
+/// The five calls on a word with bad bytes; at order m a message is as long as a word.
+fn every_call(c: &mut Comparison, m: usize, word: &[u8]) -> Result<(), Disagreement> {
+    c.call(&Call::decode(m, m.min(2), 1, 1, word))?;
+    c.call(&Call::IsCodeword { m, r: 1, word: word.to_vec() })?;
+    c.call(&Call::ReadMessage { m, r: m, word: word.to_vec(), out: word.len() })?;
+    c.call(&Call::Encode { m, r: m, message: word.to_vec(), out: word.len() })?;
+    for profile in (0..5).filter(|number| profiles::profile(*number).is_some_and(|p| p.m == m)) {
+        c.call(&Call::decode_profile(profile, word))?;
+    }
+    Ok(())
+}
+
 /// One bad byte at each place of the input, at every exponent.
 pub fn each_bad_byte(c: &mut Comparison, m: usize) -> Result<(), Disagreement> {
     let n = 1usize << m;
@@ -126,10 +138,7 @@ pub fn each_bad_byte(c: &mut Comparison, m: usize) -> Result<(), Disagreement> {
     for place in (0..n).step_by(step).chain([n - 1]) {
         let mut word = vec![0; n];
         word[place] = 2;
-        c.call(&Call::decode(m, m.min(2), 1, 1, &word))?;
-        c.call(&Call::IsCodeword { m, r: 1, word: word.clone() })?;
-        c.call(&Call::ReadMessage { m, r: m, word: word.clone(), out: n })?;
-        c.call(&Call::Encode { m, r: m, message: word, out: n })?;
+        every_call(c, m, &word)?;
     }
     Ok(())
 }
@@ -147,6 +156,24 @@ pub fn each_profile(c: &mut Comparison, profile: usize) -> Result<(), Disagreeme
         }
     }
     c.call(&Call::decode_profile(profile, &bad_byte(n))).map(|_| ())
+}
+
+/// Several bad bytes in one input, each as small as 2 and as large as 255: the lowest at every place in turn, the last one bad too, all bad.
+pub fn several_bad_bytes(c: &mut Comparison, seed: u64, m: usize) -> Result<(), Disagreement> {
+    let n = 1usize << m;
+    let mut random = Random::new(seed);
+    for place in (0..n).step_by((n / 32).max(1)) {
+        let mut word = random.bits(n);
+        word[n - 1] = 255;
+        word[place] = random.one_of(&[2, 255]);
+        for later in place + 1..n {
+            if random.once_in(4) {
+                word[later] = random.one_of(&[2, 3, 128, 255]);
+            }
+        }
+        every_call(c, m, &word)?;
+    }
+    every_call(c, m, &vec![255; n])
 }
 
 /// Lengths that are one off, at every exponent.

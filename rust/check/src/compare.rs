@@ -35,7 +35,7 @@ impl<'a> Comparison<'a> {
     pub fn call(&mut self, call: &Call) -> Result<Effects, Disagreement> {
         let found = call.run(self.candidate);
         let right = call.run(&mut self.right);
-        if !agree(&found, &right, call.input()) {
+        if found != right {
             return Err(difference(call, &found, &right));
         }
         self.met[right.answer.refusal as usize] += 1;
@@ -45,15 +45,6 @@ impl<'a> Comparison<'a> {
     pub fn calls(&self) -> u64 {
         self.met.iter().sum()
     }
-}
-
-/// The place that 8 names is free, as long as it holds a byte above 1.
-fn agree(found: &Effects, right: &Effects, input: &[u8]) -> bool {
-    let mut answer = found.answer;
-    if right.answer.refusal == 8 && input.get(answer.place as usize).is_some_and(|byte| *byte > 1) {
-        answer.place = right.answer.place;
-    }
-    Effects { answer, ..found.clone() } == *right
 }
 
 fn numbers(answer: Answer) -> String {

@@ -12,6 +12,7 @@ pub fn directed(c: &mut Comparison) -> Result<(), Disagreement> {
     }
     code_calls::every(c, 2)?;
     bad_calls::many(c, 90, 400)?;
+    bad_calls::several_bad_bytes(c, 93, 3)?;
     blocks::by_profile(c, 91, 0, 10)?;
     blocks::by_profile(c, 92, 1, 10)
 }
@@ -47,6 +48,7 @@ fn every_bad_call(c: &mut Comparison) -> Result<(), Disagreement> {
     bad_calls::many(c, 200, 20_000)?;
     (0..5).try_for_each(|number| bad_calls::each_profile(c, number))?;
     (1..=10).try_for_each(|m| bad_calls::each_bad_byte(c, m))?;
+    (1..=10).try_for_each(|m| bad_calls::several_bad_bytes(c, 250 + m as u64, m))?;
     (1..=10).try_for_each(|m| [0, 1, m].iter().try_for_each(|r| bad_calls::each_length(c, m, *r)))
 }
 

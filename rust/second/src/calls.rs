@@ -21,7 +21,7 @@ impl Second {
 
     pub fn encode(&self, m: usize, r: usize, message: &[u8], out: &mut [u8]) -> Answer {
         let checked = check_code(m, r).and_then(|()| check_slices(message, message_bits(m, r), out, 1 << m));
-        if let Err(answer) = checked.and_then(|()| check_bytes(message)) {
+        if let Err(answer) = checked.and_then(|()| check_bytes(message, self.fault)) {
             return answer;
         }
         out.copy_from_slice(&code::codeword(m, r, message, self.fault));
@@ -30,7 +30,7 @@ impl Second {
 
     pub fn read_message(&self, m: usize, r: usize, word: &[u8], out: &mut [u8]) -> Answer {
         let checked = check_code(m, r).and_then(|()| check_slices(word, 1 << m, out, message_bits(m, r)));
-        if let Err(answer) = checked.and_then(|()| check_bytes(word)) {
+        if let Err(answer) = checked.and_then(|()| check_bytes(word, self.fault)) {
             return answer;
         }
         if !code::is_codeword(r, word) && self.fault != Fault::MessageUntested {
@@ -43,7 +43,7 @@ impl Second {
     /// Yes is 1 in the rounds.
     pub fn is_codeword(&self, m: usize, r: usize, word: &[u8]) -> Answer {
         let checked = check_code(m, r).and_then(|()| check_length(word, 1 << m, 5));
-        if let Err(answer) = checked.and_then(|()| check_bytes(word)) {
+        if let Err(answer) = checked.and_then(|()| check_bytes(word, self.fault)) {
             return answer;
         }
         Answer { rounds: code::is_codeword(r, word) as usize, ..Answer::default() }
@@ -89,7 +89,7 @@ impl Second {
     ) -> Answer {
         let n = 1 << m;
         let checked = check_slices(word, n, out, n).and_then(|()| check_area(area, n));
-        if let Err(answer) = checked.and_then(|()| check_bytes(word)) {
+        if let Err(answer) = checked.and_then(|()| check_bytes(word, self.fault)) {
             if answer.refusal == 8 && self.fault == Fault::AreaClearedAfter8 {
                 area.fill(0);
             }

@@ -38,10 +38,17 @@ pub fn check_area(area: &[i32], n: usize) -> Result<(), Answer> {
     check(area.len() < 8 * n, 7)
 }
 
-/// 8 names the first byte above 1.
-pub fn check_bytes(bytes: &[u8]) -> Result<(), Answer> {
-    match bytes.iter().position(|byte| *byte > 1) {
-        None => Ok(()),
-        Some(place) => Err(Answer { place, ..Answer::refused(8) }),
-    }
+/// 8 names the smallest place whose byte is above 1.
+pub fn check_bytes(bytes: &[u8], fault: Fault) -> Result<(), Answer> {
+    let bad: Vec<usize> = (0..bytes.len()).filter(|place| bytes[*place] > 1).collect();
+    let Some(&lowest) = bad.first() else {
+        return Ok(());
+    };
+    let place = match fault {
+        Fault::HighestBadPlace => bad[bad.len() - 1],
+        Fault::BadPlaceFromOne => *bad.iter().find(|place| **place > 0).unwrap_or(&0),
+        Fault::PlaceAfterBad => lowest + 1,
+        _ => lowest,
+    };
+    Err(Answer { place, ..Answer::refused(8) })
 }

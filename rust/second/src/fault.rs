@@ -57,6 +57,12 @@ pub enum Fault {
     AreaTailKept,
     /// The area is cleared after 8 too.
     AreaClearedAfter8,
+    /// 8 names the greatest place whose byte is above 1.
+    HighestBadPlace,
+    /// The search for the place that 8 names starts at place 1.
+    BadPlaceFromOne,
+    /// 8 names the place after the smallest bad one.
+    PlaceAfterBad,
     /// Message bits go by degree first, masks ascending within a degree.
     MasksByDegree,
     /// The first variable stands in the senior place.
@@ -66,7 +72,7 @@ pub enum Fault {
 }
 
 impl Fault {
-    pub const ALL: [Fault; 31] = [
+    pub const ALL: [Fault; 34] = [
         Fault::LowerMask,
         Fault::FlipsDuringRound,
         Fault::AbstainerVotesZeros,
@@ -95,6 +101,9 @@ impl Fault {
         Fault::AreaNotCleared,
         Fault::AreaTailKept,
         Fault::AreaClearedAfter8,
+        Fault::HighestBadPlace,
+        Fault::BadPlaceFromOne,
+        Fault::PlaceAfterBad,
         Fault::MasksByDegree,
         Fault::SeniorFirst,
         Fault::MessageUntested,

@@ -7,7 +7,7 @@ use lib.Pow.{pow-mono}
 use borrow.Author.Needs.{needs}
 use borrow.Author.Tests.{eq-eqb, ne-eqb, le-leb, lt-leb}
 use Rattle.refusals.specs.declared.Refusal.the-variants.{InputLength, OutputLength, AreaLength}
-use Rattle.refusals.specs.CheckLaws.{fails, passes, refuses}
+use Rattle.refusals.specs.CheckLaws.{fails, passes, refuses, next}
 use Rattle.checks.proofs.buffers.Statement.{statement}
 use Rattle.checks.proofs.buffers.Tie as tie
 
@@ -48,12 +48,9 @@ returns-4 : tie.Need-returns-4
 returns-4 c =
     let s = c .before .before .before .before .before .before in
     let e : c .before .before .before .before .size .result ≡ 2 ^ s .args .m = c .before .before .before .before .size .ensures in
-    record {
-      number = passes _ _ _ (eq-eqb (length (s .args .word .now)) (2 ^ s .args .m) (omega arith))
-          (passes _ _ _ (eq-eqb (s .args .room) (2 ^ s .args .m) (omega arith))
-          (passes _ _ _ (le-leb (8 * 2 ^ s .args .m) (s .args .area) (omega arith)) (c .check-bytes .ensures .number)));
-      place = c .check-bytes .ensures .place;
-    }
+    next 5 _ (eq-eqb (length (s .args .word .now)) (2 ^ s .args .m) (omega arith))
+    (next 6 _ (eq-eqb (s .args .room) (2 ^ s .args .m) (omega arith))
+    (next 7 _ (le-leb (8 * 2 ^ s .args .m) (s .args .area) (omega arith)) (c .check-bytes .ensures)))
 
 pub buffers-spec : {M : Type 1} → statement M
 buffers-spec =

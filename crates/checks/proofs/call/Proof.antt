@@ -1,4 +1,5 @@
 -- `checks::call` meets its contract. Assumes nothing.
+use mathlib.Core.Path.{refl}
 use borrow.Author.Needs.{needs}
 use Rattle.refusals.specs.CheckLaws.{stops, goes-on, code-done}
 use Rattle.rule.specs.Decoding.{bufferChecks}
@@ -12,7 +13,7 @@ enum-known-code : tie.Need-enum-known-code
 enum-known-code c = search needs
 
 returns : tie.Need-returns
-returns c = stops _ _ (c .before .before .before .check-code .ensures) (c .before .code .given .1)
+returns c = stops _ _ refl (c .before .before .before .check-code .ensures) (c .before .code .given .1)
 
 enum-told : tie.Need-enum-told
 enum-told c = search needs
@@ -28,7 +29,7 @@ returns-2 c =
     let l = c .before .before .before in
     let a = l .before .before .before .before .before .args in
     goes-on _ tt (l .before .before .before .check-code .ensures) (l .before .enum-told .given .1)
-    (stops (bufferChecks (a .m) (a .word .now) (a .room) (a .area)) _ (l .limits .ensures) (c .before .limits2 .given .1))
+    (stops (bufferChecks (a .m) (a .word .now) (a .room) (a .area)) _ refl (l .limits .ensures) (c .before .limits2 .given .1))
 
 enum-told-2 : tie.Need-enum-told-2
 enum-told-2 c = search needs

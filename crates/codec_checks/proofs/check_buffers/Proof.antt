@@ -4,7 +4,7 @@ use native.Mathlib.Omega.{arith}
 use borrow.Author.Needs.{needs}
 use borrow.Author.Tests.{eq-eqb, ne-eqb}
 use Rattle.refusals.specs.declared.Refusal.the-variants.{InputLength, OutputLength}
-use Rattle.refusals.specs.CheckLaws.{passes, fails, refuses}
+use Rattle.refusals.specs.CheckLaws.{passes, fails, refuses, next}
 use Rattle.codec_checks.proofs.check_buffers.Statement.{statement}
 use Rattle.codec_checks.proofs.check_buffers.Tie as tie
 
@@ -18,12 +18,7 @@ check-bytes-requires : tie.Need-check-bytes-requires
 check-bytes-requires c κs = search needs
 
 returns-3 : tie.Need-returns-3
-returns-3 c =
-    let b = c .check-bytes .ensures in
-    record {
-      number = passes 5 _ _ (eq-eqb _ _ (c .before .before .if1 .left)) (passes 6 _ _ (eq-eqb _ _ (c .before .if2 .left)) (b .number));
-      place = b .place;
-    }
+returns-3 c = next 5 _ (eq-eqb _ _ (c .before .before .if1 .left)) (next 6 _ (eq-eqb _ _ (c .before .if2 .left)) (c .check-bytes .ensures))
 
 pub check-buffers-spec : {M : Type 1} → statement M
 check-buffers-spec = tie.close (tie.spec returns returns-2 check-bytes-requires returns-3)

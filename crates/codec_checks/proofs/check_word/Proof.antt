@@ -1,10 +1,10 @@
 -- `codec_checks::check_word` meets its contract. Assumes nothing.
-use mathlib.Core.Path.{sym, _∙_}
+use mathlib.Core.Path.{refl, sym, _∙_}
 use borrow.Author.Needs.{needs}
 use borrow.Author.Tests.{eq-eqb, ne-eqb}
 use native.Mathlib.Omega.{arith}
 use Rattle.refusals.specs.declared.Refusal.the-variants.{InputLength}
-use Rattle.refusals.specs.CheckLaws.{passes, fails, refuses, stops, goes-on, code-done}
+use Rattle.refusals.specs.CheckLaws.{fails, refuses, next, stops, goes-on, code-done}
 use Rattle.codec_checks.proofs.check_word.Statement.{statement}
 use Rattle.codec_checks.proofs.check_word.Tie as tie
 
@@ -15,7 +15,7 @@ enum-known-code : tie.Need-enum-known-code
 enum-known-code c = search needs
 
 returns : tie.Need-returns
-returns c = stops _ _ (c .before .before .before .check-code .ensures) (c .before .code .given .1)
+returns c = stops _ _ refl (c .before .before .before .check-code .ensures) (c .before .code .given .1)
 
 enum-told : tie.Need-enum-told
 enum-told c = search needs
@@ -33,9 +33,8 @@ check-bytes-requires c κs = search needs
 
 returns-3 : tie.Need-returns-3
 returns-3 c =
-    let b = c .check-bytes .ensures in
     goes-on _ tt (c .before .before .before .before .before .check-code .ensures) (c .before .before .before .enum-told .given .1)
-    (record { number = passes 5 _ _ (eq-eqb _ _ (c .before .if1 .left ∙ c .before .before .size .ensures)) (b .number); place = b .place })
+    (next 5 _ (eq-eqb _ _ (c .before .if1 .left ∙ c .before .before .size .ensures)) (c .check-bytes .ensures))
 
 pub check-word-spec : {M : Type 1} → statement M
 check-word-spec =

@@ -8,6 +8,7 @@ use native.Mathlib.Omega.{arith}
 use mathlib.Core.Path.{sym, _∙_}
 use borrow.Author.Tests.{ltb-true}
 use Rattle.words.specs.SumLaws.{all-true}
+use Rattle.words.specs.Search.{lowest-found}
 use Rattle.words.proofs.bad_place.Statement.{statement}
 use Rattle.words.proofs.bad_place.Tie as tie
 
@@ -21,11 +22,8 @@ all-bits-requires : tie.Need-all-bits-requires Inv-loop μ-loop
 all-bits-requires c κs = search needs
 
 returns : tie.Need-returns Inv-loop μ-loop
-returns c = record {
-  within = omega arith;
-  before = λ q l. ltb-true _ _ (all-true _ _ (sym (c .before .all-bits .ensures) ∙ c .if1 .taken) q l);
-  found = λ l. omega arith;
-}
+returns c =
+    lowest-found _ _ (omega arith) (λ q l. ltb-true _ _ (all-true _ _ (sym (c .before .all-bits .ensures) ∙ c .if1 .taken) q l)) (λ l. omega arith)
 
 loop-holds : tie.Need-loop-holds Inv-loop μ-loop
 loop-holds c = search needs
@@ -34,7 +32,7 @@ shared-slice-read-if2 : tie.Need-shared-slice-read-if2 Inv-loop μ-loop
 shared-slice-read-if2 c = search needs
 
 returns-2 : tie.Need-returns-2 Inv-loop μ-loop
-returns-2 c = record { within = omega arith; before = c .before .before .before .loop .inv .1; found = λ l. omega arith }
+returns-2 c = lowest-found _ _ (omega arith) (c .before .before .before .loop .inv .1) (λ l. omega arith)
 
 add-p : tie.Need-add-p Inv-loop μ-loop
 add-p c = search needs
@@ -46,7 +44,7 @@ loop-again : tie.Need-loop-again Inv-loop μ-loop
 loop-again c = (omega arith, below-more _ _ (c .before .before .before .loop .inv .1) (omega arith))
 
 returns-3 : tie.Need-returns-3 Inv-loop μ-loop
-returns-3 c = record { within = omega arith; before = c .before .loop .inv .1; found = λ l. omega arith }
+returns-3 c = lowest-found _ _ (omega arith) (c .before .loop .inv .1) (λ l. omega arith)
 
 pub bad-place-spec : {M : Type 1} → statement M
 bad-place-spec =
