@@ -81,7 +81,7 @@ static inline uint32_t rm_leaves(uint64_t answer) {
     return (uint32_t)(answer >> 16 & 16777215);
 }
 
-/* The places where the decoded word differs from the one received; 0 for now. */
+/* The number of places where the accepted word differs from the received one; 0 with a refusal. */
 static inline unsigned rm_mended(uint64_t answer) {
     return (unsigned)(answer >> 40 & 4095);
 }

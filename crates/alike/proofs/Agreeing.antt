@@ -8,8 +8,8 @@ use Rattle.words.specs.Word.{IsWord, addWords}
 use Rattle.refusals.specs.declared.Decoded.{Decoded}
 use Rattle.profiles.specs.Profiles.{profileOf}
 use Rattle.rule.specs.Reading.{Outcome}
-use Rattle.rule.specs.Decoding.{Values, values, numberIn, answerOf, outputOf, decodeCall, decodeProfileCall}
-use Rattle.rule.specs.DecodingLaws.{RightSizes}
+use Rattle.rule.specs.Decoding.{numberIn, decodeCall, decodeProfileCall}
+use Rattle.rule.specs.DecodingLaws.{RightSizes, number-is}
 use Rattle.rule.specs.Calls.{Decodes, valuesOf}
 use Rattle.rule.specs.Demand3.{Agree, demand-3-call, demand-3-profile-call}
 use Rattle.alike.specs.Alike.{Differ, Fit, Alike}
@@ -19,23 +19,22 @@ sizes word fit = record { input = word; output = fit .output; lent = fit .lent }
 
 module _ {w w′ out out′ v v′ : List ℕ} {area area′ xs xs′ : List ℤ} {a a′ : Decoded} where
   -- by their outcomes x and y
-  agreeing : {x y : Outcome} → Decodes x w out v area xs a → Decodes y w′ out′ v′ area′ xs′ a′ → Agree (addWords w w′) x y → Alike w w′ v v′ a a′
-  agreeing {x} {y} one two agree = record {
+  agreeing : {m : ℕ} {x y : Outcome} → Decodes m x w out v area xs a → Decodes m y w′ out′ v′ area′ xs′ a′ → Agree m w w′ (addWords w w′) x y
+      → Alike w w′ v v′ a a′
+  agreeing {m} {x} {y} one two agree = record {
     answer = two .answer ∙ agree .answer ∙ sym (one .answer);
-    output = λ e. two .output ∙ go (valuesOf a) (one .answer) e ∙ ap (λ (u : List ℕ). addWords u (addWords w w′)) (sym (one .output));
+    output = λ e. two .output ∙ agree .output (sym (number-is m w x) ∙ ap numberIn (sym (one .answer)) ∙ e) out out′
+        ∙ ap (λ (u : List ℕ). addWords u (addWords w w′)) (sym (one .output));
   }
-    where
-      go : (u : Values) → u ≡ answerOf x → numberIn u ≡ 0 → outputOf y out′ ≡ addWords (outputOf x out) (addWords w w′)
-      go (values e k l) q z = agree .output k l (sym q ∙ ap (λ (n : ℕ). values n k l) z) out out′
 
-  pub calls-alike : {m r : ℕ} (rounds leaves : ℕ) → Decodes (decodeCall m r rounds leaves w (length out) (length area)) w out v area xs a
-      → Decodes (decodeCall m r rounds leaves w′ (length out′) (length area′)) w′ out′ v′ area′ xs′ a′
+  pub calls-alike : {m r : ℕ} (rounds leaves : ℕ) → Decodes m (decodeCall m r rounds leaves w (length out) (length area)) w out v area xs a
+      → Decodes m (decodeCall m r rounds leaves w′ (length out′) (length area′)) w′ out′ v′ area′ xs′ a′
       → Differ m r w w′ → Fit m out area → Fit m out′ area′ → Alike w w′ v v′ a a′
   calls-alike {m} {r} rounds leaves one two d f f′ =
       agreeing one two (demand-3-call m r rounds leaves w w′ (d .codeword) _ _ _ _ (sizes (d .first) f) (sizes (d .second) f′))
 
-  pub profiles-alike : (number : ℕ) → Decodes (decodeProfileCall number w (length out) (length area)) w out v area xs a
-      → Decodes (decodeProfileCall number w′ (length out′) (length area′)) w′ out′ v′ area′ xs′ a′
+  pub profiles-alike : (number : ℕ) → Decodes (profileOf number .m) (decodeProfileCall number w (length out) (length area)) w out v area xs a
+      → Decodes (profileOf number .m) (decodeProfileCall number w′ (length out′) (length area′)) w′ out′ v′ area′ xs′ a′
       → Differ (profileOf number .m) (profileOf number .r) w w′ → Fit (profileOf number .m) out area → Fit (profileOf number .m) out′ area′
       → Alike w w′ v v′ a a′
   profiles-alike number one two d f f′ =

@@ -22,7 +22,7 @@ pub record Fit (m : ℕ) (out : List ℕ) (area : List ℤ) : Type 0 where
   pub lent : 8 * 2 ^ m ≤ length area
 
 -- "Compared are whether each call is accepted, the refusal's number, the rounds and the leaf count as returned, and on acceptance all n
--- output bytes": the answers a and a′ to the words w and w′, which leave the outputs v and v′
+-- output bytes"; document 02, request 3: the places mended too. The answers a and a′ to the words w and w′, which leave the outputs v and v′
 pub record Alike (w w′ v v′ : List ℕ) (a a′ : Decoded) : Type 0 where
   pub answer : valuesOf a′ ≡ valuesOf a
   pub output : numberIn (valuesOf a) ≡ 0 → v′ ≡ addWords v (addWords w w′)

@@ -2,9 +2,8 @@
 use Prim.Native.Nat.{ℕ, _+_, _*_, _^_, _≤_, _<_}
 use native.Mathlib.Omega.{arith}
 use mathlib.Core.Path.{_≡_, refl, sym, ap, subst, _∙_}
-use mathlib.Core.Bool.{Bool, true, false, _||_, _&&_}
+use mathlib.Core.Bool.{Bool, true, false, _&&_}
 use mathlib.Core.List.{List, [], _∷_, _++_}
-use lib.Dec.{leb, eqb}
 use lib.ListN.{length}
 use lib.IntN.{ℤ, pos}
 use borrow.Author.Tests.{eqb-true, leb-true, ne-eqb, le-leb, lt-leb}
@@ -12,29 +11,35 @@ use Rattle.words.specs.SumLaws.{both-true}
 use Rattle.words.specs.Word.{bit}
 use Rattle.words.specs.Written.{Written}
 use Rattle.area.specs.Area.{at, Front, wordOf}
-use Rattle.area.specs.AreaLaws.{front-bits, front-word}
-use Rattle.refusals.specs.CheckLaws.{code-passed, number-pos, passed, next, only-8, other-place, rest-passes}
-use Rattle.refusals.specs.Refusals.{Check, check, Checked, answerNumber, answerPlace, placeNamed, codeChecks, firstRefusal, numberOf}
+use Rattle.area.specs.AreaLaws.{front-bits, front-word, wordOf-same}
+use Rattle.refusals.specs.CheckLaws.{code-passed, next, number-pos, other-place, passed, rest-passes}
+use Rattle.refusals.specs.Refusals.{Check, check, Checked, answerNumber, answerPlace, areaKept, codeChecks, firstRefusal, numberOf}
 use Rattle.refusals.specs.declared.Refusal.{Refusal}
 use Rattle.refusals.specs.declared.Answer.{Answer}
 use Rattle.refusals.specs.declared.Answer.the-variants.{Done, Refused as Refuses}
 use Rattle.refusals.specs.declared.Decoded.{Decoded}
-use Rattle.refusals.specs.declared.Decoded.the-variants.{Accepted, Refused}
+use Rattle.refusals.specs.declared.Decoded.the-variants.{Refused}
 use Rattle.profiles.specs.declared.Profile.{Profile}
 use Rattle.profiles.specs.Profiles.{profileOf}
 use Rattle.hadamard.specs.Correlation.{values as signs}
 use Rattle.rule.specs.Reading.{Outcome, accepted, refused, order1, reading}
-use Rattle.rule.specs.Decoding.{after, bufferChecks, limitChecks, limited, profileChecks, values, numberIn, answerOf, outputOf, areaOf, zeros}
-use Rattle.rule.specs.DecodingLaws.{after-cases, buffers-passed, limited-within}
+use Rattle.rule.specs.Decoding.{after, bufferChecks, limitChecks, limited, profileChecks, values, refusalOf, answerOf, outputOf, areaOf, zeros}
+use Rattle.rule.specs.DecodingLaws.{after-cases, buffers-passed, limited-cases, limited-within}
 use Rattle.rule.specs.ProfileLaws.{profile-code, profile-passes}
-use Rattle.rule.specs.Calls.{Decodes, valuesOf, decodedPlace}
-use Rattle.rule.specs.Counts.{leaf-most, reading-leaf, reading-noise}
-use Rattle.told.specs.Told.{Holds, Read}
+use Rattle.rule.specs.Calls.{Decodes, decodedPlace, valuesOf}
+use Rattle.rule.specs.Covariance.{reading-in}
+use Rattle.rule.specs.Outcomes.{CodewordIn}
+use Rattle.rule.specs.Counts.{leaf-most, reading-leaf}
+use Rattle.told.specs.Told.{noiseNumber, numbersOf, numbersIn, Holds, Kept, Read}
+use Rattle.told.specs.declared.Told.{Told}
+use Rattle.told.specs.ToldLaws.{noise-number}
+use Rattle.told.specs.declared.Verdict.{Verdict}
 use Rattle.direct.specs.Direct.{Readable, Gives}
 use Rattle.readings.specs.Readings.{Ready}
 use Rattle.delivery.specs.Delivery.{Deliverable, delivered}
 use Rattle.decoder.specs.Runs.{Runs}
-use Rattle.readings.specs.Answers.{Late, by-answer, limited-late}
+use Rattle.decoder.specs.Verdicts.{Delivered, Mendable, valuesIn}
+use Rattle.readings.specs.Answers.{Numbered, by-answer, reading-numbered}
 
 -- ---- a reading
 
@@ -66,35 +71,19 @@ module _ {m r rounds leaves : ℕ} {word out : List ℕ} {xs ys : List ℤ} (loa
     few = runs .few;
   }
 
--- it was read, with the answer d
-pub record WasRead (m r rounds leaves : ℕ) (word out : List ℕ) (xs ys us : List ℤ) (d : Decoded) : Type 0 where
+-- it was read, with t told
+pub record WasRead (m r rounds leaves : ℕ) (word out : List ℕ) (xs ys us : List ℤ) (t : Told) : Type 0 where
   pub loads : Loaded m r rounds leaves word out xs ys
   pub same : length us ≡ length ys
-  pub read : Read (2 ^ m) (limited leaves (reading r m rounds (wordOf (2 ^ m) ys))) us d
+  pub read : Read (2 ^ m) (limited leaves (reading r m rounds (wordOf (2 ^ m) ys))) us (t .answer)
+  pub kept : Kept (2 ^ m) ys us t
 
-late-not-8 : (o : Outcome) → Late o → numberIn (answerOf o) ≡ 8 → ⊥
-late-not-8 (accepted d i j) h e = omega arith
-late-not-8 (refused n i j) h e = omega arith
-
--- what is not refused by 8 names no place
-no-place : (d : Decoded) → (numberIn (valuesOf d) ≡ 8 → ⊥) → decodedPlace d ≡ 0
-no-place (Accepted k l) h = refl
-no-place (Refused why k l) h = only-8 why h
-
-late-place : (word : List ℕ) (o : Outcome) (d : Decoded) → Late o → valuesOf d ≡ answerOf o → decodedPlace d ≡ placeNamed word (numberIn (answerOf o))
-late-place word o d h e =
-    no-place d (λ z. late-not-8 o h (ap numberIn (sym e) ∙ z)) ∙ sym (other-place word (numberIn (answerOf o)) (late-not-8 o h))
-
-late-area : (o : Outcome) (xs : List ℤ) → Late o → areaOf o xs ≡ zeros xs
-late-area (accepted d k l) xs h = refl
-late-area (refused e k l) xs h = rw (lt-leb e 8 (omega arith), ne-eqb e 14 (λ z. omega arith))
-
-result-late : (m r rounds leaves : ℕ) (word : List ℕ) → Late (limited leaves (reading r m rounds word))
-result-late m r rounds leaves word = limited-late leaves (reading r m rounds word) (reading-noise r m rounds word)
-
-module _ {m r rounds leaves : ℕ} {word out : List ℕ} {xs ys us : List ℤ} {d : Decoded} (done : WasRead m r rounds leaves word out xs ys us d) where
-  open WasRead done using (loads, same, read)
+module _ {m r rounds leaves : ℕ} {word out : List ℕ} {xs ys us : List ℤ} {t : Told} (done : WasRead m r rounds leaves word out xs ys us t) where
+  open WasRead done using (loads, same, read, kept)
   open Loaded loads using (runs, loaded)
+
+  abbrev a : Verdict
+  a = t .answer
 
   abbrev o : Outcome
   o = limited leaves (reading r m rounds word)
@@ -102,14 +91,14 @@ module _ {m r rounds leaves : ℕ} {word out : List ℕ} {xs ys us : List ℤ} {
   is-word : wordOf (2 ^ m) ys ≡ word
   is-word = front-word (omega (arith, room loads)) (front loads)
 
-  said : valuesOf d ≡ answerOf o
+  said : numbersIn a ≡ numbersOf o
   said = rw is-word at (read .said)
 
   holds : Holds (2 ^ m) o us
   holds = rw is-word at (read .word)
 
-  late : Late o
-  late = result-late m r rounds leaves word
+  numbered : Numbered o
+  numbered = reading-numbered leaves r m rounds word
 
   room-us : length out ≤ length us
   room-us = omega (arith, runs .output, same, room loads)
@@ -117,18 +106,26 @@ module _ {m r rounds leaves : ℕ} {word out : List ℕ} {xs ys us : List ℤ} {
   sized : {w : List ℕ} → Front (2 ^ m) w us → Front (length out) w us
   sized {w} = subst (λ (n : ℕ). Front n w us) (sym (runs .output))
 
-  pub read-delivers : Deliverable (length out) d us
+  pub read-delivers : Deliverable (length out) a us
   read-delivers =
-      by-answer (λ (x : Decoded) (y : Outcome). Holds (2 ^ m) y us → Deliverable (length out) x us)
-      (λ w k l i j h. front-bits room-us (sized h)) (λ why e k l i j h. tt) d o late said holds
+      by-answer (λ (x : Verdict) (y : Outcome). Holds (2 ^ m) y us → Deliverable (length out) x us)
+      (λ w k l h. front-bits room-us (sized h)) (λ why k l h. tt) a o numbered said holds
 
-  output-is : delivered d out us ≡ outputOf o out
+  output-is : delivered a out us ≡ outputOf o out
   output-is =
-      by-answer (λ (x : Decoded) (y : Outcome). Holds (2 ^ m) y us → delivered x out us ≡ outputOf y out)
-      (λ w k l i j h. front-word room-us (sized h)) (λ why e k l i j h. refl) d o late said holds
+      by-answer (λ (x : Verdict) (y : Outcome). Holds (2 ^ m) y us → delivered x out us ≡ outputOf y out)
+      (λ w k l h. front-word room-us (sized h)) (λ why k l h. refl) a o numbered said holds
 
-  pub read-gives : {out′ : List ℕ} → out′ ≡ delivered d out us → Gives o out out′ d
-  read-gives e = record { answer = said; output = e ∙ output-is }
+  -- a word that was kept is the word given
+  kept-is : (x : Outcome) → Holds (2 ^ m) x us → t .kept ≡ true → outputOf x word ≡ word
+  kept-is (accepted d k l) h q =
+      let s = kept .same q in
+      sym (front-word (omega (arith, same, room loads)) h)
+      ∙ wordOf-same (2 ^ m) ys us (omega (arith, room loads)) (omega (arith, same, room loads)) (s .same) ∙ is-word
+  kept-is (refused e k l) h q = refl
+
+  pub read-gives : {out′ : List ℕ} → out′ ≡ delivered a out us → Gives o word out out′ t
+  read-gives e = record { answer = said; output = e ∙ output-is; kept = kept-is o holds }
 
 -- ---- a block of order 1 read from its bytes
 
@@ -149,64 +146,91 @@ module _ {m r rounds leaves : ℕ} {word out : List ℕ} {xs : List ℤ} (runs :
       rw e (limited-within leaves (reading 1 m rounds word) (omega (arith, runs .one, leaf-most 1 (reading 1 m rounds word) (reading-leaf 1 m rounds word (omega arith)))))
 
   pub direct-gives :
-      {out′ : List ℕ} {d : Decoded} → r ≡ 1 → Gives (order1 m (signs word)) out out′ d → Gives (limited leaves (reading r m rounds word)) out out′ d
-  direct-gives {out′} {d} e = subst (λ (o : Outcome). Gives o out out′ d) (sym (one-leaf e))
+      {out′ : List ℕ} {t : Told} → r ≡ 1 → Gives (order1 m (signs word)) word out out′ t → Gives (limited leaves (reading r m rounds word)) word out out′ t
+  direct-gives {out′} {t} e = subst (λ (o : Outcome). Gives o word out out′ t) (sym (one-leaf e))
 
--- ---- a call: the area cleared after the reading
+-- ---- a call: its answer from the reading's, the area cleared
 
-module _ (m r rounds leaves : ℕ) (word : List ℕ) where
+area-cleared : (xs : List ℤ) (a : Verdict) (o : Outcome) → Numbered o → numbersIn a ≡ numbersOf o → areaOf o xs ≡ zeros xs
+area-cleared xs =
+    by-answer (λ (x : Verdict) (y : Outcome). areaOf y xs ≡ zeros xs) (λ d k l. refl)
+    (λ why k l. rw (lt-leb (noiseNumber why) 8 (omega (arith, noise-number why)), ne-eqb (noiseNumber why) 14 (λ z. omega (arith, noise-number why))))
+
+not-8 : (a : Verdict) (o : Outcome) → Numbered o → numbersIn a ≡ numbersOf o → refusalOf o ≡ 8 → ⊥
+not-8 = by-answer (λ (x : Verdict) (y : Outcome). refusalOf y ≡ 8 → ⊥) (λ d k l z. omega arith) (λ why k l z. omega (arith, noise-number why))
+
+module _ (m : ℕ) (word out : List ℕ) where
+  delivers : (r : ℕ) (kept : Bool) (a : Verdict) (o : Outcome) → Numbered o → numbersIn a ≡ numbersOf o
+      → CodewordIn m r o → (kept ≡ true → outputOf o word ≡ word) → Delivered m word (outputOf o out) kept a
+  delivers r kept =
+      by-answer (λ (x : Verdict) (y : Outcome). CodewordIn m r y → (kept ≡ true → outputOf y word ≡ word) → Delivered m word (outputOf y out) kept x)
+      (λ d k l c g. (c .word, g)) (λ why k l c g. tt)
+
+  values-are : (a : Verdict) (o : Outcome) → Numbered o → numbersIn a ≡ numbersOf o → valuesIn m word (outputOf o out) a ≡ answerOf m word o
+  values-are = by-answer (λ (x : Verdict) (y : Outcome). valuesIn m word (outputOf y out) x ≡ answerOf m word y) (λ d k l. refl) (λ why k l. refl)
+
+module _ {m r rounds leaves : ℕ} {word out : List ℕ} {xs : List ℤ} (runs : Runs m r rounds leaves word out xs) where
   abbrev result : Outcome
   result = limited leaves (reading r m rounds word)
 
-  pub gives-decodes :
-      {out out′ : List ℕ} {xs zs : List ℤ} {d : Decoded} → Gives result out out′ d → zs ≡ zeros xs → Decodes result word out out′ xs zs d
-  gives-decodes {xs = xs} g z =
-      let late : Late result = result-late m r rounds leaves word in
-      record {
-        answer = g .answer;
-        place = late-place word result _ late (g .answer);
-        output = g .output;
-        lent = z ∙ sym (late-area result xs late);
-      }
+  numbered-result : Numbered result
+  numbered-result = reading-numbered leaves r m rounds word
+
+  codeword-in : CodewordIn m r result
+  codeword-in =
+      limited-cases leaves (reading r m rounds word) (CodewordIn m r) (λ l. tt) (λ l. reading-in r m rounds word (runs .order) (runs .input))
+
+  module _ {out′ : List ℕ} {t : Told} (g : Gives result word out out′ t) where
+    pub gives-mendable : Mendable m word out′ t
+    gives-mendable = record {
+      input = runs .input;
+      output = rw (g .output) (delivers m word out r (t .kept) (t .answer) result numbered-result (g .answer) codeword-in (g .kept));
+    }
+
+    pub gives-decodes : {zs : List ℤ} {d : Decoded} → zs ≡ zeros xs
+        → (valuesOf d ≡ valuesIn m word out′ (t .answer)) × (decodedPlace d ≡ 0) → Decodes m result word out out′ xs zs d
+    gives-decodes z e = record {
+      answer = e .0 ∙ rw (g .output) (values-are m word out (t .answer) result numbered-result (g .answer));
+      place = e .1 ∙ sym (other-place word (refusalOf result) (not-8 (t .answer) result numbered-result (g .answer)));
+      output = g .output;
+      lent = z ∙ sym (area-cleared xs (t .answer) result numbered-result (g .answer));
+    }
 
 -- ---- the checks
 
--- the numbers that leave the area as it is
-abbrev early : ℕ → Bool
-early e = leb e 8 || eqb e 14
+-- every refusal of the checks leaves the area as it is
+abbrev pub allKept : List Check → Bool
+allKept [] = true
+allKept (check n ok ∷ cs) = areaKept n && allKept cs
 
-abbrev pub allEarly : List Check → Bool
-allEarly [] = true
-allEarly (check n ok ∷ cs) = early n && allEarly cs
-
-first-early : (cs : List Check) → allEarly cs ≡ true → 0 < firstRefusal cs → early (firstRefusal cs) ≡ true
+first-kept : (cs : List Check) → allKept cs ≡ true → 0 < firstRefusal cs → areaKept (firstRefusal cs) ≡ true
 unfolding firstRefusal
-first-early [] h l = absurd (omega arith)
-first-early (check n true ∷ cs) h l = first-early cs (both-true (early n) (allEarly cs) h .1) l
-first-early (check n false ∷ cs) h l = both-true (early n) (allEarly cs) h .0
+first-kept [] h l = absurd (omega arith)
+first-kept (check n true ∷ cs) h l = first-kept cs (both-true (areaKept n) (allKept cs) h .1) l
+first-kept (check n false ∷ cs) h l = both-true (areaKept n) (allKept cs) h .0
 
 module _ {cs : List Check} {word : List ℕ} {a : Answer} (checked : Checked cs word a) where
   pub checks-passed : a ≡ Done → firstRefusal cs ≡ 0
   checks-passed e = sym (checked .number) ∙ ap answerNumber e
 
-  pub checks-refused : {why : Refusal} (o : Outcome) (out : List ℕ) (xs : List ℤ) → allEarly cs ≡ true → a ≡ Refuses why
-      → Decodes (after cs o) word out out xs xs (Refused why 0 0)
-  checks-refused {why} o out xs all e =
+  pub checks-refused : {why : Refusal} (m : ℕ) (o : Outcome) (out : List ℕ) (xs : List ℤ) → allKept cs ≡ true → a ≡ Refuses why
+      → Decodes m (after cs o) word out out xs xs (Refused why 0 0)
+  checks-refused {why} m o out xs all e =
       let n : firstRefusal cs ≡ numberOf why = sym (checked .number) ∙ ap answerNumber e in
-      after-cases cs o (λ (x : Outcome). Decodes x word out out xs xs (Refused why 0 0))
+      after-cases cs o (λ (x : Outcome). Decodes m x word out out xs xs (Refused why 0 0))
       (λ z. absurd (omega (arith, number-pos why)))
       (λ some. record {
-        answer = ap (λ (k : ℕ). values k 0 0) (sym n);
+        answer = ap (λ (k : ℕ). values k 0 0 0) (sym n);
         place = ap answerPlace (sym e) ∙ checked .place;
         output = refl;
-        lent = sym (rw (first-early cs all some));
+        lent = sym (rw (first-kept cs all some));
       })
 
 -- every check passed
-pub passed-decodes : (cs : List Check) {o : Outcome} {word out out′ : List ℕ} {xs ys : List ℤ} {d : Decoded}
-    → firstRefusal cs ≡ 0 → Decodes o word out out′ xs ys d → Decodes (after cs o) word out out′ xs ys d
-passed-decodes cs {o} {word} {out} {out′} {xs} {ys} {d} e h =
-    after-cases cs o (λ (x : Outcome). Decodes x word out out′ xs ys d) (λ z. h) (λ some. absurd (omega arith))
+pub passed-decodes : (cs : List Check) {m : ℕ} {o : Outcome} {word out out′ : List ℕ} {xs ys : List ℤ} {d : Decoded}
+    → firstRefusal cs ≡ 0 → Decodes m o word out out′ xs ys d → Decodes m (after cs o) word out out′ xs ys d
+passed-decodes cs {m} {o} {word} {out} {out′} {xs} {ys} {d} e h =
+    after-cases cs o (λ (x : Outcome). Decodes m x word out out′ xs ys d) (λ z. h) (λ some. absurd (omega arith))
 
 -- what the checks make sure of
 pub passed-runs : (m r rounds leaves : ℕ) (word out : List ℕ) (xs : List ℤ)

@@ -1,2 +1,3 @@
--- What the decoder's functions ask and promise: Runs.
+-- What the decoder's functions ask and promise: Runs, Verdicts.
 pub mod Runs
+pub mod Verdicts

@@ -1,16 +1,22 @@
 // The decoder: readings by projection and vote, in a lent area of numbers.
 ghost use mathlib.Core.Path.{_≡_};
 ghost use lib.ListN.{length};
+ghost use Rattle.profiles.specs.Profiles.{profileOf};
 ghost use Rattle.refusals.specs.Refusals.{Checked};
 ghost use Rattle.rule.specs.Reading;
-ghost use Rattle.rule.specs.Decoding.{limited, decodeCall, decodeProfileCall};
+ghost use Rattle.rule.specs.Decoding.{limited, decodeCall, decodeProfileCall, zeros};
 ghost use Rattle.rule.specs.Calls.{Decodes};
+ghost use Rattle.direct.specs.Direct.{Gives};
 ghost use Rattle.decoder.specs.Runs.{Runs};
+use answers::answered;
 use delivery::deliver;
 use readings::reading;
 use refusals::Answer;
 use refusals::Decoded;
 use refusals::Refusal;
+use told::Told;
+
+mod answers;
 
 // A call that passed its checks, read in the area.
 fn run_in_area(
@@ -21,16 +27,17 @@ fn run_in_area(
     word: &[u8],
     out: &mut [u8],
     area: &mut [i32],
-) -> Decoded
+) -> Told
     requires { ⌜ Runs m r rounds leaves (now word) (now out) (now area) ⌝ }
-    ensures { λ d. ⌜ Decodes (limited leaves (Rattle.rule.specs.Reading.reading r m rounds (now (word .entry)))) (now (word .entry)) (now (out .entry)) (now (out .exit)) (now (area .entry)) (now (area .exit)) d ⌝ }
+    ensures given { λ t. ⌜ Gives (limited leaves (Rattle.rule.specs.Reading.reading r m rounds (now (word .entry)))) (now (word .entry)) (now (out .entry)) (now (out .exit)) t ⌝ }
+    ensures cleared { λ t. ⌜ now (area .exit) ≡ zeros (now (area .entry)) ⌝ }
 {
     area::load(word, area);
     let told = reading(m, r, rounds, leaves, area);
     let answer = told.answer;
     deliver(answer, area, out);
     area::fill(area, 0);
-    answer
+    told
 }
 
 // A call that passed its checks: a block of order 1 with 32 to 128 places goes from its bytes to the output's, any other through the area.
@@ -44,16 +51,18 @@ fn run(
     area: &mut [i32],
 ) -> Decoded
     requires { ⌜ Runs m r rounds leaves (now word) (now out) (now area) ⌝ }
-    ensures { λ d. ⌜ Decodes (limited leaves (Rattle.rule.specs.Reading.reading r m rounds (now (word .entry)))) (now (word .entry)) (now (out .entry)) (now (out .exit)) (now (area .entry)) (now (area .exit)) d ⌝ }
+    ensures { λ d. ⌜ Decodes m (limited leaves (Rattle.rule.specs.Reading.reading r m rounds (now (word .entry)))) (now (word .entry)) (now (out .entry)) (now (out .exit)) (now (area .entry)) (now (area .exit)) d ⌝ }
 {
     if r == 1 {
         if 4 < m {
             if m < 8 {
-                return direct::read_block(m, word, out, area);
+                let told = direct::read_block(m, word, out, area);
+                return answered(told, m, word, out);
             }
         }
     }
-    run_in_area(m, r, rounds, leaves, word, out, area)
+    let told = run_in_area(m, r, rounds, leaves, word, out, area);
+    answered(told, m, word, out)
 }
 
 // Decodes a block under the limits given.
@@ -66,7 +75,7 @@ pub fn decode(
     out: &mut [u8],
     area: &mut [i32],
 ) -> Decoded
-    ensures { λ d. ⌜ Decodes (decodeCall m r rounds leaves (now (word .entry)) (length (now (out .entry))) (length (now (area .entry)))) (now (word .entry)) (now (out .entry)) (now (out .exit)) (now (area .entry)) (now (area .exit)) d ⌝ }
+    ensures { λ d. ⌜ Decodes m (decodeCall m r rounds leaves (now (word .entry)) (length (now (out .entry))) (length (now (area .entry)))) (now (word .entry)) (now (out .entry)) (now (out .exit)) (now (area .entry)) (now (area .exit)) d ⌝ }
 {
     let checked = checks::call(m, r, rounds, leaves, word, out.len(), area.len());
     match checked {
@@ -77,7 +86,7 @@ pub fn decode(
 
 // Decodes a block under the limits of a profile.
 pub fn decode_profile(profile: usize, word: &[u8], out: &mut [u8], area: &mut [i32]) -> Decoded
-    ensures { λ d. ⌜ Decodes (decodeProfileCall profile (now (word .entry)) (length (now (out .entry))) (length (now (area .entry)))) (now (word .entry)) (now (out .entry)) (now (out .exit)) (now (area .entry)) (now (area .exit)) d ⌝ }
+    ensures { λ d. ⌜ Decodes (profileOf profile .m) (decodeProfileCall profile (now (word .entry)) (length (now (out .entry))) (length (now (area .entry)))) (now (word .entry)) (now (out .entry)) (now (out .exit)) (now (area .entry)) (now (area .exit)) d ⌝ }
 {
     if 4 < profile {
         return Decoded::Refused(Refusal::Profile, 0, 0);

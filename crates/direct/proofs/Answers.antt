@@ -19,12 +19,15 @@ use Rattle.peaks.specs.Peaks.{IsPeak}
 use Rattle.peaks.specs.Found.{peak-below}
 use Rattle.byte_quads.specs.ByteQuads.{quadAt}
 use Rattle.blocks.specs.Blocks.{Block}
-use Rattle.refusals.specs.declared.Refusal.the-variants.{Tie}
-use Rattle.refusals.specs.declared.Decoded.the-variants.{Accepted, Refused}
 use Rattle.code.specs.Code.{codewordTest}
 use Rattle.code.specs.Codewords.{codeword-of-test}
 use Rattle.rule.specs.Reading.{order1}
 use Rattle.rule.specs.Nearest.{order1-codeword}
+use Rattle.told.specs.Told.{numbersIn}
+use Rattle.told.specs.ToldLaws.{changed-kept}
+use Rattle.told.specs.declared.Told.{Told}
+use Rattle.told.specs.declared.Noise.the-variants.{Tie}
+use Rattle.told.specs.declared.Verdict.the-variants.{Accepted, Refused}
 use Rattle.order_one.specs.OrderOne.{PeakOf, nearest, order1-tie, order1-nearest, constant-bit}
 use Rattle.block_peak.specs.Sought.{valueAt, Sought}
 use Rattle.direct.specs.Direct.{Readable, Gives}
@@ -77,13 +80,13 @@ module _ {m : ℕ} {word out : List ℕ} {area : List ℤ} (r : Readable m word 
 -- a block that is a codeword already
 pub codeword-gives :
     {m : ℕ} {w out out′ : List ℕ} → 1 ≤ m → IsWord m w → codewordTest m 1 w ≡ true → out′ ≡ w
-    → Gives (order1 m (values w)) out out′ (Accepted 0 1)
+    → Gives (order1 m (values w)) w out out′ (record { answer = Accepted 0 1; kept = true })
 codeword-gives {m} {w} hm hw e o =
-    rw (order1-codeword hm (codeword-of-test m 1 w hw e)) (record { answer = refl; output = o })
+    rw (order1-codeword hm (codeword-of-test m 1 w hw e)) (record { answer = refl; output = o; kept = λ q. refl })
 
 module _ {m : ℕ} {w : List ℕ} {p : Peak} (k : PeakOf m w p) where
-  pub tie-gives : {out : List ℕ} → p .alone ≡ false → Gives (order1 m (values w)) out out (Refused Tie 0 1)
-  tie-gives e = rw (order1-tie k e) (record { answer = refl; output = refl })
+  pub tie-gives : {out : List ℕ} {t : Told} → (t .answer ≡ Refused Tie 0 1) × (t .kept ≡ false) → p .alone ≡ false → Gives (order1 m (values w)) w out out t
+  tie-gives c e = rw (order1-tie k e) (record { answer = ap numbersIn (c .0); output = refl; kept = changed-kept c })
 
   module _ (e : p .alone ≡ true) where
     written-is : tabulate (2 ^ m) (affineBit (p .mask) (natAbs (stored (p .constant)))) ≡ nearest m w p
@@ -92,11 +95,12 @@ module _ {m : ℕ} {w : List ℕ} {p : Peak} (k : PeakOf m w p) where
         ap (λ (z : ℤ). tabulate (2 ^ m) (affineBit (p .mask) (natAbs z))) (bit-back (constant-bit k e) ∙ k .peak .constant e)
 
     pub written-gives :
-        {out out′ : List ℕ} (n : ℕ) → n ≡ 2 ^ m → out′ ≡ tabulate n (affineBit (p .mask) (natAbs (stored (p .constant))))
-        → Gives (order1 m (values w)) out out′ (Accepted 0 1)
-    written-gives n en o =
+        {out out′ : List ℕ} {t : Told} → (t .answer ≡ Accepted 0 1) × (t .kept ≡ false) → (n : ℕ) → n ≡ 2 ^ m
+        → out′ ≡ tabulate n (affineBit (p .mask) (natAbs (stored (p .constant)))) → Gives (order1 m (values w)) w out out′ t
+    written-gives c n en o =
         rw (order1-nearest k e)
         (record {
-          answer = refl;
+          answer = ap numbersIn (c .0);
+          kept = changed-kept c;
           output = o ∙ ap (λ (i : ℕ). tabulate i (affineBit (p .mask) (natAbs (stored (p .constant))))) en ∙ written-is;
         })

@@ -15,8 +15,8 @@ use Rattle.code.specs.Code.{IsCodeword, dimension, messageOf}
 use Rattle.codec_checks.specs.Checks.{readChecks}
 use Rattle.profiles.specs.Profiles.{profileOf}
 use Rattle.rule.specs.Reading.{Outcome, accepted, refused}
-use Rattle.rule.specs.Decoding.{values, answerOf, outputOf, decodeProfileOf, decodeProfileCall}
-use Rattle.rule.specs.DecodingLaws.{profile-call-is}
+use Rattle.rule.specs.Decoding.{numberIn, refusalOf, outputOf, decodeProfileOf, decodeProfileCall}
+use Rattle.rule.specs.DecodingLaws.{number-is, profile-call-is}
 use Rattle.rule.specs.ProfileLaws.{profile-code}
 use Rattle.rule.specs.Demand3.{Sound, profile-sound, profile-call-sound}
 use Rattle.rule.specs.Calls.{valuesOf, Decodes}
@@ -35,22 +35,22 @@ module _ (serial profile : ℕ) where
   r = profileOf profile .r
 
   -- an accepted answer: what was put out is a codeword, and the entry has its message
-  accepted-codeword : {k l : ℕ} (o : Outcome) (out : List ℕ) → Sound m r o → values 0 k l ≡ answerOf o → IsCodeword m r (outputOf o out)
+  accepted-codeword : (o : Outcome) (out : List ℕ) → Sound m r o → 0 ≡ refusalOf o → IsCodeword m r (outputOf o out)
   accepted-codeword (accepted d i j) out h e = h
-  accepted-codeword (refused n i j) out h e = let z : 0 ≡ n = cc in absurd (omega arith)
+  accepted-codeword (refused n i j) out h e = absurd (omega arith)
 
-  accepted-entry : {k l : ℕ} (o : Outcome) (out : List ℕ) → Sound m r o → values 0 k l ≡ answerOf o
+  accepted-entry : (o : Outcome) (out : List ℕ) → Sound m r o → 0 ≡ refusalOf o
       → entryFor serial profile o ≡ entry (acceptedLine serial (messageOf m r (outputOf o out))) 1
   accepted-entry (accepted d i j) out h e = refl
-  accepted-entry (refused n i j) out h e = let z : 0 ≡ n = cc in absurd (omega arith)
+  accepted-entry (refused n i j) out h e = absurd (omega arith)
 
-  refused-entry : {k l : ℕ} (why : Refusal) (o : Outcome) → values (numberOf why) k l ≡ answerOf o → entryFor serial profile o ≡ entry (refusedLine serial (numberOf why)) 0
-  refused-entry why (accepted d i j) e = let z : numberOf why ≡ 0 = cc in absurd (omega (arith, number-pos why))
-  refused-entry why (refused n i j) e = let z : numberOf why ≡ n = cc in rw z
+  refused-entry : (why : Refusal) (o : Outcome) → numberOf why ≡ refusalOf o → entryFor serial profile o ≡ entry (refusedLine serial (numberOf why)) 0
+  refused-entry why (accepted d i j) e = absurd (omega (arith, number-pos why))
+  refused-entry why (refused n i j) e = rw e
 
   -- a call of the decoder on a record's word
   module _ {word out out′ : List ℕ} {area area′ : List ℤ} {d : Decoded} (h : Decodable profile word (length out) (length area))
-      (c : Decodes (decodeProfileCall profile word (length out) (length area)) word out out′ area area′ d) where
+      (c : Decodes m (decodeProfileCall profile word (length out) (length area)) word out out′ area area′ d) where
     abbrev o : Outcome
     o = decodeProfileCall profile word (length out) (length area)
 
@@ -61,14 +61,17 @@ module _ (serial profile : ℕ) where
     unfolding recordEntry
     entry-is = ap (entryFor serial profile) (sym (profile-call-is profile (h .sizes)))
 
-    pub decodes-accepted : {k l : ℕ} → d ≡ decoder.Accepted k l → AcceptedWord profile out′
-    decodes-accepted e = record { known = h .known; codeword = rw (c .output) (accepted-codeword o out sound (ap valuesOf (sym e) ∙ c .answer)) }
+    number : {e : Decoded} → d ≡ e → numberIn (valuesOf e) ≡ refusalOf o
+    number e = ap (λ (x : Decoded). numberIn (valuesOf x)) (sym e) ∙ ap numberIn (c .answer) ∙ number-is m word o
 
-    pub accepted-is : {k l : ℕ} → d ≡ decoder.Accepted k l → recordEntry serial profile word ≡ entry (acceptedLine serial (messageOf m r out′)) 1
-    accepted-is e = entry-is ∙ rw (c .output) (accepted-entry o out sound (ap valuesOf (sym e) ∙ c .answer))
+    pub decodes-accepted : {k l n : ℕ} → d ≡ decoder.Accepted k l n → AcceptedWord profile out′
+    decodes-accepted e = record { known = h .known; codeword = rw (c .output) (accepted-codeword o out sound (number e)) }
+
+    pub accepted-is : {k l n : ℕ} → d ≡ decoder.Accepted k l n → recordEntry serial profile word ≡ entry (acceptedLine serial (messageOf m r out′)) 1
+    accepted-is e = entry-is ∙ rw (c .output) (accepted-entry o out sound (number e))
 
     pub refused-is : {why : Refusal} {k l : ℕ} → d ≡ decoder.Refused why k l → recordEntry serial profile word ≡ entry (refusedLine serial (numberOf why)) 0
-    refused-is {why} e = entry-is ∙ refused-entry why o (ap valuesOf (sym e) ∙ c .answer)
+    refused-is {why} e = entry-is ∙ refused-entry why o (number e)
 
 -- the word that the decoder gives for a profile is a codeword, so a message reader after it refuses nothing: not 13, and in a buffer of k
 -- bytes none of 1 to 8

@@ -23,7 +23,7 @@ fn line_by(
 {
     let answer = decoder::decode_profile(profile, word, decoded, area);
     match answer {
-        Decoded::Accepted(_, _) => accepted_line(serial, profile, decoded, out, at),
+        Decoded::Accepted(_, _, _) => accepted_line(serial, profile, decoded, out, at),
         Decoded::Refused(why, _, _) => Line {
             end: lines::refused_line(serial, refusals::number(why), out, at),
             accepted: 0,

@@ -1,7 +1,7 @@
 // How a round ends: the flips, and the answer for a word that no round changes.
-use refusals::Decoded;
-use refusals::Refusal;
+use told::Noise;
 use told::Told;
+use told::Verdict;
 use told::changed;
 ghost use mathlib.Core.Bool.{true, cond};
 ghost use mathlib.Core.Path.{_≡_};
@@ -42,16 +42,16 @@ pub fn flip(n: usize, abstained: usize, area: &mut [i32]) -> bool
 // The answer for a word that no round changes: after one round it is the word given.
 pub fn settle(m: usize, r: usize, k: usize, used: usize, area: &mut [i32]) -> Told
     requires { ⌜ (m ≤ 10) × (2 * 2 ^ m ≤ length (now area)) × Bits (2 ^ m) (now area) ⌝ }
-    ensures tested { λ t. ⌜ t .answer ≡ cond (codewordTest m r (wordOf (2 ^ m) (now (area .entry)))) (Decoded.Accepted k used) (Decoded.Refused Refusal.Unsettled k used) ⌝ }
+    ensures tested { λ t. ⌜ t .answer ≡ cond (codewordTest m r (wordOf (2 ^ m) (now (area .entry)))) (Verdict.Accepted k used) (Verdict.Refused Noise.Unsettled k used) ⌝ }
     ensures same { λ t. ⌜ SameFront (2 ^ m) (now (area .entry)) (now (area .exit)) ⌝ }
     ensures first { λ t. ⌜ (t .kept ≡ true → k ≡ 1) ⌝ }
 {
     if settled::holds_codeword(m, r, area) {
         Told {
-            answer: Decoded::Accepted(k, used),
+            answer: Verdict::Accepted(k, used),
             kept: k == 1,
         }
     } else {
-        changed(Decoded::Refused(Refusal::Unsettled, k, used))
+        changed(Verdict::Refused(Noise::Unsettled, k, used))
     }
 }

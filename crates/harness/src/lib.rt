@@ -1,13 +1,15 @@
 // The calls of the core for C and Rust, each answer packed in 64 bits.
+ghost use mathlib.Core.Path.{_≡_};
 ghost use lib.ListN.{length};
-ghost use Rattle.codec.specs.Calls.{Encodes, Reads, Tests};
+ghost use Rattle.code.specs.Code.{codeword, codewordTest, messageOf};
+ghost use Rattle.codec_checks.specs.Checks.{encodeChecks, readChecks, testChecks};
+ghost use Rattle.profiles.specs.Profiles.{profileOf};
 ghost use Rattle.rule.specs.Decoding.{decodeCall, decodeProfileCall};
-ghost use Rattle.rule.specs.Calls.{Decodes};
-ghost use Rattle.packing.specs.Packing.{packAnswer, packTested, packDecoded, Packed};
+ghost use Rattle.packing.specs.Packing.{Returns, ReturnsDecoded, packTest};
 
 #[no_mangle]
 pub extern "C" fn rm_encode(m: usize, r: usize, message: &[u8], out: &mut [u8]) -> u64
-    ensures { λ x. ⌜ Packed packAnswer (Encodes m r (now (message .entry)) (now (out .entry)) (now (out .exit))) x ⌝ }
+    ensures { λ x. ⌜ Returns (encodeChecks m r (now (message .entry)) (length (now (out .entry)))) (codeword m r (now (message .entry))) (now (message .entry)) (now (out .entry)) (now (out .exit)) x ⌝ }
 {
     let answer = codec::encode(m, r, message, out);
     packing::pack_answer(answer)
@@ -15,7 +17,7 @@ pub extern "C" fn rm_encode(m: usize, r: usize, message: &[u8], out: &mut [u8]) 
 
 #[no_mangle]
 pub extern "C" fn rm_read_message(m: usize, r: usize, word: &[u8], out: &mut [u8]) -> u64
-    ensures { λ x. ⌜ Packed packAnswer (Reads m r (now (word .entry)) (now (out .entry)) (now (out .exit))) x ⌝ }
+    ensures { λ x. ⌜ Returns (readChecks m r (now (word .entry)) (length (now (out .entry)))) (messageOf m r (now (word .entry))) (now (word .entry)) (now (out .entry)) (now (out .exit)) x ⌝ }
 {
     let answer = codec::read_message(m, r, word, out);
     packing::pack_answer(answer)
@@ -24,7 +26,7 @@ pub extern "C" fn rm_read_message(m: usize, r: usize, word: &[u8], out: &mut [u8
 // 1 in the rounds where the word is a codeword.
 #[no_mangle]
 pub extern "C" fn rm_is_codeword(m: usize, r: usize, word: &[u8]) -> u64
-    ensures { λ x. ⌜ Packed packTested (Tests m r (now (word .entry))) x ⌝ }
+    ensures { λ x. ⌜ x ≡ packTest (testChecks m r (now (word .entry))) (now (word .entry)) (codewordTest m r (now (word .entry))) ⌝ }
 {
     let answer = codec::is_codeword(m, r, word);
     packing::pack_tested(answer)
@@ -40,7 +42,7 @@ pub extern "C" fn rm_decode(
     out: &mut [u8],
     area: &mut [i32],
 ) -> u64
-    ensures { λ x. ⌜ Packed packDecoded (Decodes (decodeCall m r rounds leaves (now (word .entry)) (length (now (out .entry))) (length (now (area .entry)))) (now (word .entry)) (now (out .entry)) (now (out .exit)) (now (area .entry)) (now (area .exit))) x ⌝ }
+    ensures { λ x. ⌜ ReturnsDecoded m (decodeCall m r rounds leaves (now (word .entry)) (length (now (out .entry))) (length (now (area .entry)))) (now (word .entry)) (now (out .entry)) (now (out .exit)) (now (area .entry)) (now (area .exit)) x ⌝ }
 {
     let answer = decoder::decode(m, r, rounds, leaves, word, out, area);
     packing::pack_decoded(answer)
@@ -53,7 +55,7 @@ pub extern "C" fn rm_decode_profile(
     out: &mut [u8],
     area: &mut [i32],
 ) -> u64
-    ensures { λ x. ⌜ Packed packDecoded (Decodes (decodeProfileCall profile (now (word .entry)) (length (now (out .entry))) (length (now (area .entry)))) (now (word .entry)) (now (out .entry)) (now (out .exit)) (now (area .entry)) (now (area .exit))) x ⌝ }
+    ensures { λ x. ⌜ ReturnsDecoded (profileOf profile .m) (decodeProfileCall profile (now (word .entry)) (length (now (out .entry))) (length (now (area .entry)))) (now (word .entry)) (now (out .entry)) (now (out .exit)) (now (area .entry)) (now (area .exit)) x ⌝ }
 {
     let answer = decoder::decode_profile(profile, word, out, area);
     packing::pack_decoded(answer)

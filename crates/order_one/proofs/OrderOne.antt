@@ -19,13 +19,13 @@ use Rattle.affine.specs.Blocks.{affine-front}
 use Rattle.affine.specs.Affine.{affineAt}
 use Rattle.peaks.specs.declared.Peak.{Peak}
 use Rattle.peaks.specs.Peaks.{IsPeak}
-use Rattle.refusals.specs.declared.Refusal.the-variants.{Tie}
-use Rattle.refusals.specs.declared.Decoded.the-variants.{Accepted, Refused}
 use Rattle.code.specs.Code.{codewordTest}
 use Rattle.code.specs.Codewords.{codeword-of-test}
 use Rattle.rule.specs.Reading.{order1}
 use Rattle.rule.specs.Nearest.{order1-codeword}
 use Rattle.told.specs.Told.{Read}
+use Rattle.told.specs.declared.Noise.the-variants.{Tie}
+use Rattle.told.specs.declared.Verdict.the-variants.{Accepted, Refused}
 use Rattle.order_one.specs.OrderOne.{PeakOf, nearest, order1-tie, order1-nearest, constant-bit}
 use Rattle.told.specs.WordPart.{lent-size}
 

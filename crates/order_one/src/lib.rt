@@ -1,7 +1,7 @@
 // The reading at order 1: by the peak of the word's correlations.
-use refusals::Decoded;
-use refusals::Refusal;
+use told::Noise;
 use told::Told;
+use told::Verdict;
 use told::changed;
 ghost use mathlib.Core.Path.{_≡_};
 ghost use Prim.Native.Nat.{ℕ, _*_, _≤_, _^_};
@@ -20,19 +20,19 @@ fn first_order_in(m: usize, part: &mut [i32]) -> Told
 {
     if affine_test::is_affine(m, part) {
         return Told {
-            answer: Decoded::Accepted(0, 1),
+            answer: Verdict::Accepted(0, 1),
             kept: true,
         };
     }
     let n = words::size(m);
     let peak = nearest::find_peak(m, part);
     if !peak.alone {
-        return changed(Decoded::Refused(Refusal::Tie, 0, 1));
+        return changed(Verdict::Refused(Noise::Tie, 0, 1));
     }
     let mask = peak.mask;
     let constant = peak.constant;
     affine::write_affine(&mut part[0..n], mask, constant);
-    changed(Decoded::Accepted(0, 1))
+    changed(Verdict::Accepted(0, 1))
 }
 
 // The reading at order 1.

@@ -16,10 +16,10 @@ use Rattle.area.specs.Area.{at}
 use Rattle.hadamard.specs.Correlation.{values, correlation, affine}
 use Rattle.hadamard.specs.AffineWords.{bit-affine}
 use Rattle.hadamard.specs.CorrelationLaws.{correlation-zero, near-distance, far-distance}
-use Rattle.refusals.specs.declared.Refusal.the-variants.{Tie}
 use Rattle.rule.specs.Reading.{accepted, refused, constant, bySum, order0}
 use Rattle.told.specs.Told.{Read}
-use Rattle.refusals.specs.declared.Decoded.the-variants.{Accepted, Refused}
+use Rattle.told.specs.declared.Noise.the-variants.{Tie}
+use Rattle.told.specs.declared.Verdict.the-variants.{Accepted, Refused}
 
 -- n less x
 data Less (n x : ℕ) : ℤ → Type 0 where

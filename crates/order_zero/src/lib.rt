@@ -1,7 +1,7 @@
 // The reading at order 0: by the number of ones.
-use refusals::Decoded;
-use refusals::Refusal;
+use told::Noise;
 use told::Told;
+use told::Verdict;
 use told::changed;
 ghost use mathlib.Core.Path.{_≡_};
 ghost use Prim.Native.Nat.{ℕ, _≤_, _^_};
@@ -35,12 +35,12 @@ pub fn zero_order(m: usize, area: &mut [i32]) -> Told
     let n = words::size(m);
     let k = count_ones(n, area);
     if 2 * k == n {
-        return changed(Decoded::Refused(Refusal::Tie, 0, 0));
+        return changed(Verdict::Refused(Noise::Tie, 0, 0));
     }
     if 2 * k < n {
         area::fill(&mut area[0..n], 0);
-        return changed(Decoded::Accepted(0, 0));
+        return changed(Verdict::Accepted(0, 0));
     }
     area::fill(&mut area[0..n], 1);
-    changed(Decoded::Accepted(0, 0))
+    changed(Verdict::Accepted(0, 0))
 }

@@ -1,2 +1,3 @@
--- Definitions: Packing.
+-- Definitions: Packing. PackingLaws has laws.
 pub mod Packing
+pub mod PackingLaws

@@ -1,33 +1,46 @@
 -- Answers packed in 64 bits. Assumes nothing.
-use Prim.Native.Nat.{ℕ, _+_, _*_, _%_, _^_}
+use Prim.Native.Nat.{ℕ, _+_, _*_, _%_}
 use mathlib.Core.Path.{_≡_}
-use Rattle.refusals.specs.declared.Answer.{Answer}
-use Rattle.refusals.specs.declared.Answer.the-variants as answer
-use Rattle.refusals.specs.declared.Decoded.{Decoded}
-use Rattle.refusals.specs.declared.Decoded.the-variants as decoded
-use Rattle.refusals.specs.Refusals.{numberOf, placeOf}
+use mathlib.Core.Bool.{Bool, cond}
+use mathlib.Core.List.{List}
+use lib.Dec.{eqb}
+use lib.IntN.{ℤ}
+use Rattle.words.specs.Word.{indicator}
+use Rattle.refusals.specs.Refusals.{Check, firstRefusal, placeNamed}
 use Rattle.codec.specs.declared.Tested.{Tested}
-use Rattle.codec.specs.declared.Tested.the-variants as tested
+use Rattle.codec.specs.declared.Tested.the-variants.{Codeword, NotCodeword, Refused}
+use Rattle.codec.specs.Calls as codec
+use Rattle.rule.specs.Reading.{Outcome}
+use Rattle.rule.specs.Decoding.{Values, values, refusalOf, answerOf, outputOf, areaOf}
 
--- refusal or 0 in the lowest 8 bits, rounds in 8, leaf count in 24, 12 bits of 0, the place named by 8 in 12
-abbrev pub pack : ℕ → ℕ → ℕ → ℕ → ℕ
-pack number rounds leaves place = number + rounds % 256 * 256 + leaves % 16777216 * 65536 + place % 4096 * 4503599627370496
+-- refusal or 0 in the lowest 8 bits, rounds in 8, leaf count in 24, mended places in 12, the place named by 8 in 12
+abbrev pub pack : ℕ → ℕ → ℕ → ℕ → ℕ → ℕ
+pack number rounds leaves mended place =
+    number + rounds % 256 * 256 + leaves % 16777216 * 65536 + mended % 4096 * 1099511627776 + place % 4096 * 4503599627370496
 
-abbrev pub packAnswer : Answer → ℕ
-packAnswer answer.Done = 0
-packAnswer (answer.Refused why) = pack (numberOf why) 0 0 (placeOf why)
+-- 1 where the codeword test says yes
+abbrev pub yesOf : Tested → ℕ
+yesOf Codeword = 1
+yesOf NotCodeword = 0
+yesOf (Refused why) = 0
 
-abbrev pub packTested : Tested → ℕ
-packTested tested.Codeword = pack 0 1 0 0
-packTested tested.NotCodeword = 0
-packTested (tested.Refused why) = pack (numberOf why) 0 0 (placeOf why)
+-- what a decoding returns, with the place that it names
+abbrev pub packValues : Values → ℕ → ℕ
+packValues (values e k l c) place = pack e k l c place
 
-abbrev pub packDecoded : Decoded → ℕ
-packDecoded (decoded.Accepted rounds leaves) = pack 0 rounds leaves 0
-packDecoded (decoded.Refused why rounds leaves) = pack (numberOf why) rounds leaves (placeOf why)
+-- ---- what the exported calls return
 
--- x packs an answer that the core's contract holds of
-pub record Packed {A : Type 0} (packs : A → ℕ) (Core : A → Type 0) (x : ℕ) : Type 0 where
-  pub answer : A
-  pub core : Core answer
-  pub packed : x ≡ packs answer
+-- a call of the encoder or the message reader: its checks cs, its result x on the input s, the output before and after, what it returns
+pub record Returns (cs : List Check) (x s before after : List ℕ) (returned : ℕ) : Type 0 where
+  pub packed : returned ≡ pack (firstRefusal cs) 0 0 0 (placeNamed s (firstRefusal cs))
+  pub output : after ≡ codec.outputOf (firstRefusal cs) x before
+
+-- the codeword test of s: 1 in the rounds where it is a codeword
+abbrev pub packTest : List Check → List ℕ → Bool → ℕ
+packTest cs s is = pack (firstRefusal cs) (cond (eqb (firstRefusal cs) 0) (indicator is) 0) 0 0 (placeNamed s (firstRefusal cs))
+
+-- a decoding of exponent m, whose outcome is o
+pub record ReturnsDecoded (m : ℕ) (o : Outcome) (word out out′ : List ℕ) (area area′ : List ℤ) (returned : ℕ) : Type 0 where
+  pub packed : returned ≡ packValues (answerOf m word o) (placeNamed word (refusalOf o))
+  pub output : out′ ≡ outputOf o out
+  pub lent : area′ ≡ areaOf o area

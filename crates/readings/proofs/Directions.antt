@@ -17,26 +17,25 @@ use Rattle.words.specs.Word.{bit, IsWord}
 use Rattle.words.specs.Written.{Written}
 use Rattle.area.specs.Area.{at, IsBit, Bits, Front, SameFront, wordOf}
 use Rattle.area.specs.AreaLaws.{bits-at, is-bit, front-bits, front-word, front-of, front-kept}
-use Rattle.refusals.specs.declared.Decoded.{Decoded}
-use Rattle.refusals.specs.declared.Decoded.the-variants.{Accepted, Refused}
 use Rattle.direction.specs.Cosets.{coset-lt}
 use Rattle.direction.specs.Direction.{project, cosetOf}
 use Rattle.direction.specs.Insert.{highest-top}
 use Rattle.direction.specs.Projected.{word-project}
 use Rattle.cosets.specs.Votes.{Projects, Tally, castVote}
 use Rattle.rule.specs.Reading.{Outcome, abstained, abstains, leavesOf, vote, votes, reading, roundLeaves}
-use Rattle.rule.specs.Decoding.{limited, answerOf}
+use Rattle.rule.specs.Decoding.{limited}
 use Rattle.rule.specs.DecodingLaws.{limited-within}
-use Rattle.rule.specs.Calls.{valuesOf}
 use Rattle.rule.specs.Counts.{reading-noise}
 use Rattle.rule.specs.Rounds.{vote-once}
-use Rattle.told.specs.Told.{Holds, Read, Kept}
+use Rattle.told.specs.Told.{numbersOf, numbersIn, Holds, Read, Kept}
 use Rattle.told.specs.declared.Told.{Told}
+use Rattle.told.specs.declared.Verdict.{Verdict}
+use Rattle.told.specs.declared.Verdict.the-variants.{Accepted, Refused}
 use Rattle.steps.specs.Steps.{countIn, voteOf, Voter, Unmoved}
 use Rattle.steps.specs.declared.Count.{Count}
 use Rattle.steps.specs.declared.Count.the-variants.{Done, Exhausted}
 use Rattle.readings.specs.Readings.{countOf, Ready, Voted}
-use Rattle.readings.specs.Answers.{Late, by-answer, count-is, counted, limited-late, spent}
+use Rattle.readings.specs.Answers.{Numbered, by-answer, count-is, counted, reading-numbered, spent}
 
 -- a round: exponent, order and round limit of its readings, the leaves left, the word of exponent m + 1, and the length of the area
 pub record Round : Type 0 where
@@ -227,7 +226,7 @@ abbrev pub back : ℕ → List ℤ → List ℤ → List ℤ
 back a zs us = putMid a (length zs - a) zs us
 
 -- a direction has no vote where it would cast none
-no-vote : (m b : ℕ) (xs : List ℤ) (p : ℕ) (d : Decoded) → castVote m b xs p ≡ 0 → voteOf m b xs d p ≡ 0
+no-vote : (m b : ℕ) (xs : List ℤ) (p : ℕ) (v : Verdict) → castVote m b xs p ≡ 0 → voteOf m b xs v p ≡ 0
 no-vote m b xs p (Accepted k l) e = e
 no-vote m b xs p (Refused why k l) e = refl
 
@@ -236,7 +235,7 @@ module _ {f : Round} {ys zs us : List ℤ} {i used absent a : ℕ} {told : Told}
   open Answered answered using (lent, same, read, kept)
   open Lent lent using (stage, projected, place)
 
-  abbrev answer : Decoded
+  abbrev answer : Verdict
   answer = told .answer
 
   -- the outcome of the reading under its leaf limit
@@ -249,7 +248,7 @@ module _ {f : Round} {ys zs us : List ℤ} {i used absent a : ℕ} {told : Told}
   long-back : length (back a zs us) ≡ size
   long-back = back-length (pos 0) a (length zs - a) zs (lent-fits lent) us long-us ∙ long-here lent
 
-  said : valuesOf answer ≡ answerOf o
+  said : numbersIn answer ≡ numbersOf o
   said = rw (word-here lent) at (read .said)
 
   holds : Holds (2 ^ m) o us
@@ -272,14 +271,14 @@ module _ {f : Round} {ys zs us : List ℤ} {i used absent a : ℕ} {told : Told}
   votes-few : (p : ℕ) → votesTo f i p < i + 1
   votes-few p = omega (arith, sum-most i 1 (λ j. vote (suc j) (project m (suc j) word) (readAt f j) p) (λ j l. omega (arith, vote-once (suc j) (project m (suc j) word) (readAt f j) p)))
 
-  late : Late o
-  late = limited-late (left - used) (readAt f i) (reading-noise r m limit (project m (suc i) word))
+  numbered : Numbered o
+  numbered = reading-numbered (left - used) r m limit (project m (suc i) word)
 
   voter : Voter m answer (back a zs us)
   voter =
-      by-answer (λ (d : Decoded) (x : Outcome). Holds (2 ^ m) x us → Voter m d (back a zs us))
-      (λ d k l b c h. record { decoded = λ q u. subst IsBit (sym (at-decoded q u ∙ h .each q u)) (is-bit _ (h .bits q u)) })
-      (λ why e k l b c h. tt) answer o late said holds
+      by-answer (λ (v : Verdict) (x : Outcome). Holds (2 ^ m) x us → Voter m v (back a zs us))
+      (λ d k l h. record { decoded = λ q u. subst IsBit (sym (at-decoded q u ∙ h .each q u)) (is-bit _ (h .bits q u)) })
+      (λ why k l h. tt) answer o numbered said holds
 
   coset-here : (p : ℕ) → p < 2 ^ suc m → cosetOf (suc i) p < 2 ^ m
   coset-here p h =
@@ -318,16 +317,16 @@ module _ {f : Round} {ys zs us : List ℤ} {i used absent a : ℕ} {told : Told}
   vote-is : (p : ℕ) → p < 2 ^ suc m → voteOf m (i + 1) (back a zs us) answer p ≡ vote (suc i) (project m (suc i) word) o p
   vote-is p u =
       by-answer
-      (λ (d : Decoded) (x : Outcome). Holds (2 ^ m) x us → voteOf m (i + 1) (back a zs us) d p ≡ vote (suc i) (project m (suc i) word) x p)
-      (λ d k l b c h.
+      (λ (v : Verdict) (x : Outcome). Holds (2 ^ m) x us → voteOf m (i + 1) (back a zs us) v p ≡ vote (suc i) (project m (suc i) word) x p)
+      (λ d k l h.
       cast-is p u
       ∙ ap (λ (z : ℤ). (bit (project m (suc i) word) (cosetOf (suc i) p) + natAbs z) % 2) (h .each (cosetOf (suc i) p) (coset-here p u)))
-      (λ why e k l b c h. refl) answer o late said holds
+      (λ why k l h. refl) answer o numbered said holds
 
 -- its votes are cast, and its leaves counted
 pub record Cast (f : Round) (ys zs us ts : List ℤ) (i used absent a : ℕ) (told : Told) (count : Count) : Type 0 where
   pub answered : Answered f ys zs us i used absent a told
-  pub counts : count ≡ countIn (valuesOf (told .answer))
+  pub counts : count ≡ countIn (numbersIn (told .answer))
   pub votes : Written (pos 0) (2 ^ suc (f .m)) (2 ^ suc (f .m))
       (λ p. at (back a zs us) (2 ^ suc (f .m) + p) +ℤ pos (voteOf (f .m) (i + 1) (back a zs us) (told .answer) p)) (back a zs us) ts
 

@@ -15,9 +15,6 @@ use Rattle.words.specs.Word.{bit, addWords}
 use Rattle.words.specs.Written.{Written}
 use Rattle.area.specs.Area.{at, Bits, Front, SameFront, wordOf}
 use Rattle.area.specs.AreaLaws.{front-bits, front-word, front-of, front-kept}
-use Rattle.refusals.specs.declared.Refusal.the-variants.{Flipping, TooManyLeaves, Unsettled}
-use Rattle.refusals.specs.declared.Decoded.{Decoded}
-use Rattle.refusals.specs.declared.Decoded.the-variants.{Accepted, Refused}
 use Rattle.code.specs.Code.{codewordTest}
 use Rattle.cosets.specs.Votes.{Tally}
 use Rattle.hadamard.specs.Correlation.{values}
@@ -26,9 +23,11 @@ use Rattle.rule.specs.Rounds.{rounds-none, rounds-step, still}
 use Rattle.rule.specs.Counts.{Leaf, reading-leaf, round-least}
 use Rattle.rule.specs.Decoding.{limited}
 use Rattle.rule.specs.DecodingLaws.{limited-within}
-use Rattle.rule.specs.Calls.{valuesOf}
-use Rattle.told.specs.Told.{Read}
+use Rattle.told.specs.Told.{numbersIn, Read}
 use Rattle.told.specs.ToldLaws.{read-above, read-within}
+use Rattle.told.specs.declared.Noise.the-variants.{Flipping, TooManyLeaves, Unsettled}
+use Rattle.told.specs.declared.Verdict.{Verdict}
+use Rattle.told.specs.declared.Verdict.the-variants.{Accepted, Refused}
 use Rattle.flips.specs.Flips.{flipOf}
 use Rattle.steps.specs.declared.Count.{Count}
 use Rattle.steps.specs.declared.Count.the-variants.{Done, Exhausted}
@@ -46,14 +45,14 @@ module _ (r m limit left : ℕ) (w : List ℕ) (ys : List ℤ) where
   leaves-are : r ≤ 1 → leavesOf (reading r m limit w) ≡ r
   leaves-are h = leaf-leaves r (reading r m limit w) (reading-leaf r m limit w h)
 
-  whole-read : {a : Decoded} → r ≤ 1 → r ≤ left → Read (2 ^ m) (reading r m limit w) ys a → Read (2 ^ m) (limited left (reading r m limit w)) ys a
+  whole-read : {a : Verdict} → r ≤ 1 → r ≤ left → Read (2 ^ m) (reading r m limit w) ys a → Read (2 ^ m) (limited left (reading r m limit w)) ys a
   whole-read h l read = rw (limited-within left (reading r m limit w) (omega (arith, leaves-are h))) read
 
-  pub read-zero : {a : Decoded} → r ≡ 0 → Read (2 ^ m) (order0 m (values w)) ys a → Read (2 ^ m) (limited left (reading r m limit w)) ys a
+  pub read-zero : {a : Verdict} → r ≡ 0 → Read (2 ^ m) (order0 m (values w)) ys a → Read (2 ^ m) (limited left (reading r m limit w)) ys a
   unfolding reading
   read-zero e read = whole-read (omega arith) (omega arith) (rw e read)
 
-  pub read-one : {a : Decoded} → r ≡ 1 → (left ≡ 0 → ⊥) → Read (2 ^ m) (order1 m (values w)) ys a → Read (2 ^ m) (limited left (reading r m limit w)) ys a
+  pub read-one : {a : Verdict} → r ≡ 1 → (left ≡ 0 → ⊥) → Read (2 ^ m) (order1 m (values w)) ys a → Read (2 ^ m) (limited left (reading r m limit w)) ys a
   unfolding reading
   read-one e some read = whole-read (omega arith) (omega arith) (rw e read)
 
@@ -84,7 +83,7 @@ pub record Turn (f : Series) (ys : List ℤ) (k used : ℕ) : Type 0 where
   pub same : f .whole ≡ rounds (f .m) (f .lower) (f .r) (f .limit - k) k used (wordOf (2 ^ suc (f .m)) ys)
 
 -- what a reading answers
-abbrev pub Reads : Series → List ℤ → Decoded → Type 0
+abbrev pub Reads : Series → List ℤ → Verdict → Type 0
 Reads f ys a = Read (2 ^ f .M) (limited (f .left) (f .whole)) ys a
 
 module _ {f : Series} {ys : List ℤ} {k used : ℕ} (turn : Turn f ys k used) where
@@ -205,10 +204,10 @@ module _ {f : Series} {ys zs us : List ℤ} {k used : ℕ} {c : Count} {count ab
     unchanged : Front (2 ^ suc m) x us
     unchanged = word-settled (polled made) room flips-here (sym still-here ∙ e)
 
-    pub flips-settled : {vs : List ℤ} {d : Decoded}
-        → d ≡ cond (codewordTest M r (wordOf (2 ^ M) us)) (Accepted (k + 1) (used + count)) (Refused Unsettled (k + 1) (used + count))
-        → SameFront (2 ^ M) us vs → Reads f vs d
-    flips-settled {vs} {d} said kept =
+    pub flips-settled : {vs : List ℤ} {a : Verdict}
+        → a ≡ cond (codewordTest M r (wordOf (2 ^ M) us)) (Accepted (k + 1) (used + count)) (Refused Unsettled (k + 1) (used + count))
+        → SameFront (2 ^ M) us vs → Reads f vs a
+    flips-settled {vs} {a} said kept =
         rw (rw (sym still-here ∙ e) at step)
         (go (codewordTest (suc m) r x) (said ∙ ap₂ (λ (j : ℕ) (u : List ℕ). answer (codewordTest j r u)) (sym up) same-word))
       where
@@ -218,7 +217,7 @@ module _ {f : Series} {ys zs us : List ℤ} {k used : ℕ} {c : Count} {count ab
         holds : Front (2 ^ M) x vs
         holds = front-kept (subst (λ (j : ℕ). Front j x us) (power made) unchanged) (kept .same)
 
-        answer : Bool → Decoded
+        answer : Bool → Verdict
         answer t = cond t (Accepted (k + 1) (used + count)) (Refused Unsettled (k + 1) (used + count))
 
         l : ℕ
@@ -227,9 +226,9 @@ module _ {f : Series} {ys zs us : List ℤ} {k used : ℕ} {c : Count} {count ab
         few : l ≤ left
         few = omega (arith, leaves made, made-few made)
 
-        go : (t : Bool) → d ≡ answer t → Read (2 ^ M) (limited left (cond t (accepted x (suc k) l) (refused 11 (suc k) l))) vs d
-        go true q = read-within vs (accepted x (suc k) l) few (rw (add-one k, leaves made .0) at (ap valuesOf q)) holds
-        go false q = read-within vs (refused 11 (suc k) l) few (rw (add-one k, leaves made .0) at (ap valuesOf q)) tt
+        go : (t : Bool) → a ≡ answer t → Read (2 ^ M) (limited left (cond t (accepted x (suc k) l) (refused 11 (suc k) l))) vs a
+        go true q = read-within vs (accepted x (suc k) l) few (rw (add-one k, leaves made .0) at (ap numbersIn q)) holds
+        go false q = read-within vs (refused 11 (suc k) l) few (rw (add-one k, leaves made .0) at (ap numbersIn q)) tt
 
     -- in the first round: the word is as it was
     pub flips-kept : {vs : List ℤ} → k + 1 ≡ 1 → SameFront (2 ^ M) us vs → SameFront (2 ^ M) start vs

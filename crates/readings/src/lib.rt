@@ -5,11 +5,11 @@ use flips::flip;
 use flips::settle;
 use order_one::first_order;
 use order_zero::zero_order;
-use refusals::Decoded;
-use refusals::Refusal;
 use steps::Count;
 use steps::cast;
+use told::Noise;
 use told::Told;
+use told::Verdict;
 use told::changed;
 ghost use mathlib.Core.Path.{_≡_};
 ghost use Prim.Native.Nat.{ℕ, suc, _+_, _*_, _^_, _≤_, _<_};
@@ -31,7 +31,7 @@ pub fn reading(m: usize, r: usize, rounds: usize, left: usize, area: &mut [i32])
     }
     if r == 1 {
         if left == 0 {
-            return changed(Decoded::Refused(Refusal::TooManyLeaves, 0, left));
+            return changed(Verdict::Refused(Noise::TooManyLeaves, 0, left));
         }
         return first_order(m, area);
     }
@@ -41,7 +41,7 @@ pub fn reading(m: usize, r: usize, rounds: usize, left: usize, area: &mut [i32])
     while k < rounds {
         match round(m - 1, r - 1, rounds, left - used, area) {
             Count::Exhausted => {
-                return changed(Decoded::Refused(Refusal::TooManyLeaves, 0, left));
+                return changed(Verdict::Refused(Noise::TooManyLeaves, 0, left));
             }
             Count::Done(leaves, abstained) => {
                 used += leaves;
@@ -52,7 +52,7 @@ pub fn reading(m: usize, r: usize, rounds: usize, left: usize, area: &mut [i32])
             }
         }
     }
-    changed(Decoded::Refused(Refusal::Flipping, k, used))
+    changed(Verdict::Refused(Noise::Flipping, k, used))
 }
 
 // A round of the word of exponent m + 1 in the front of the area: every direction's votes, by readings at exponent m and order r, their leaves

@@ -1,7 +1,7 @@
 -- Document 01, "Refusals by who causes them": the numbers, and checks in order. Assumes nothing.
 use Prim.Native.Nat.{ℕ}
 use mathlib.Core.Path.{_≡_}
-use mathlib.Core.Bool.{Bool, cond}
+use mathlib.Core.Bool.{Bool, cond, _||_}
 use mathlib.Core.List.{List, [], _∷_}
 use lib.ListN.{length}
 use lib.Dec.{leb, ltb, eqb}
@@ -63,6 +63,10 @@ answerPlace (Refused why) = placeOf why
 -- document 02, request 1: "8 names the smallest place whose byte is above 1": the place that an answer of this number to the input s names
 unfoldable pub placeNamed : List ℕ → ℕ → ℕ
 placeNamed s number = cond (eqb number 8) (lowestBad s) 0
+
+-- "After refusals 1 to 8 and 14 the area is untouched."
+abbrev pub areaKept : ℕ → Bool
+areaKept number = leb number 8 || eqb number 14
 
 -- ---- checks, "in order of checking"
 

@@ -29,9 +29,9 @@ pub enum Answer {
     Refused(Refusal),
 }
 
-// What a decoding answers, with its rounds and its leaf count.
+// What a decoding answers: its rounds and its leaf count, and where it accepts the places that it mended.
 pub enum Decoded {
-    Accepted(usize, usize),
+    Accepted(usize, usize, usize),
     Refused(Refusal, usize, usize),
 }
 

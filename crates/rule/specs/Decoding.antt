@@ -6,7 +6,8 @@ use mathlib.Core.List.{List, [], _∷_, _++_}
 use lib.ListN.{length, replicate}
 use lib.Dec.{leb, ltb, eqb}
 use lib.IntN.{ℤ, pos}
-use Rattle.refusals.specs.Refusals.{Check, check, firstRefusal, codeChecks, byteChecks}
+use Rattle.refusals.specs.Refusals.{Check, check, firstRefusal, codeChecks, byteChecks, areaKept}
+use Rattle.words.specs.Word.{distance}
 use Rattle.profiles.specs.declared.Profile.{Profile}
 use Rattle.profiles.specs.Profiles.{profileOf}
 use Rattle.rule.specs.Reading.{Outcome, accepted, refused, leavesOf, reading}
@@ -58,16 +59,23 @@ module _ (number : ℕ) where
 
 -- ---- what a call returns and leaves
 
--- a refusal's number, 0 where accepted; the rounds; the leaf count
+-- its number, 0 where accepted
+abbrev pub refusalOf : Outcome → ℕ
+refusalOf (accepted d k l) = 0
+refusalOf (refused e k l) = e
+
+-- a refusal's number, 0 where accepted; the rounds; the leaf count; the places mended
 pub data Values : Type 0 where
-  values : ℕ → ℕ → ℕ → Values
+  values : ℕ → ℕ → ℕ → ℕ → Values
 
 abbrev pub numberIn : Values → ℕ
-numberIn (values e k l) = e
+numberIn (values e k l c) = e
 
-abbrev pub answerOf : Outcome → Values
-answerOf (accepted d k l) = values 0 k l
-answerOf (refused e k l) = values e k l
+-- document 02, request 3: "the number of places where the accepted word differs from the received one", a word w of exponent m; "On every
+-- refusal the number is 0."
+abbrev pub answerOf : ℕ → List ℕ → Outcome → Values
+answerOf m w (accepted d k l) = values 0 k l (distance m w d)
+answerOf m w (refused e k l) = values e k l 0
 
 -- "Every refusal leaves the output untouched."
 abbrev pub outputOf : Outcome → List ℕ → List ℕ
@@ -80,4 +88,4 @@ zeros area = replicate (length area) (pos 0)
 -- "After refusals 1 to 8 and 14 the area is untouched. After every other return, all of it is zero."
 abbrev pub areaOf : Outcome → List ℤ → List ℤ
 areaOf (accepted d k l) area = zeros area
-areaOf (refused e k l) area = cond (leb e 8 || eqb e 14) area (zeros area)
+areaOf (refused e k l) area = cond (areaKept e) area (zeros area)

@@ -8,9 +8,9 @@ use native.Mathlib.Omega.{arith}
 use lib.Dec.{ltb, eqb}
 use lib.ListN.{length}
 use borrow.Author.Tests.{eq-eqb, eqb-false, eqb-true, le-leb, le-ltb, lt-ltb, ltb-false, ltb-true}
-use Rattle.rule.specs.Decoding.{after, bufferChecks, decodeCall, decodeOf, decodeProfileCall, decodeProfileOf, limitChecks, limited, profileChecks}
+use Rattle.rule.specs.Decoding.{answerOf, numberIn, refusalOf, after, bufferChecks, decodeCall, decodeOf, decodeProfileCall, decodeProfileOf, limitChecks, limited, profileChecks}
 use Rattle.rule.specs.Outcomes.{leaves-shift, shift}
-use Rattle.rule.specs.Reading.{Outcome, leavesOf, refused}
+use Rattle.rule.specs.Reading.{Outcome, accepted, leavesOf, refused}
 use Rattle.profiles.specs.Profiles.{profileOf}
 use Rattle.refusals.specs.CheckLaws.{bits-tested, bits-pass, passed, passes, rest-passes}
 use Rattle.refusals.specs.Refusals.{Check, codeChecks, firstRefusal}
@@ -98,3 +98,8 @@ unfolding decodeProfileCall decodeProfileOf
 profile-call-is {word} {room} {area} number h =
     after-same (profileChecks number ++ bufferChecks (profileOf number .m) word room area) (profileChecks number) _
     (rest-passes (profileChecks number) (bufferChecks (profileOf number .m) word room area) (buffers-pass h))
+
+-- a call's number among the values that it returns
+pub number-is : (m : ℕ) (w : List ℕ) (o : Outcome) → numberIn (answerOf m w o) ≡ refusalOf o
+number-is m w (accepted d k l) = refl
+number-is m w (refused e k l) = refl

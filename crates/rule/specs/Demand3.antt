@@ -1,10 +1,10 @@
 -- Demand 3: two words that differ by a codeword are answered alike. And an accepted word is a codeword. Assumes nothing.
 use Prim.Native.Nat.{ℕ, _<_}
-use mathlib.Core.Path.{_≡_, ap, _∙_}
+use mathlib.Core.Path.{_≡_, sym, ap, subst, _∙_}
 use mathlib.Core.List.{List, [], _++_}
 use native.Mathlib.Omega.{arith}
 use Rattle.code.specs.Code.{IsCodeword}
-use Rattle.rule.specs.Decoding.{answerOf, outputOf, values}
+use Rattle.rule.specs.Decoding.{answerOf, refusalOf, outputOf, values}
 use Rattle.rule.specs.Counts.{Noise, reading-noise}
 use Rattle.rule.specs.Covariance.{reading-add, reading-in}
 use Rattle.rule.specs.Decoding.{after, bufferChecks, decodeCall, decodeOf, decodeProfileCall, decodeProfileOf, limitChecks, limited, profileChecks}
@@ -16,7 +16,7 @@ use Rattle.profiles.specs.Profiles.{profileOf}
 use Rattle.refusals.specs.CheckLaws.{IsCode, code-passed, rest-passed}
 use Rattle.refusals.specs.Refusals.{Check, codeChecks, firstRefusal}
 use Rattle.words.specs.Word.{IsWord, addWords}
-use Rattle.words.specs.WordLaws.{add-cancel}
+use Rattle.words.specs.WordLaws.{add-cancel, word-add, distance-add}
 use Rattle.profiles.specs.declared.Profile.{Profile}
 
 -- an accepted word is a codeword, and no refusal has the number 0
@@ -24,15 +24,19 @@ abbrev pub Sound : ℕ → ℕ → Outcome → Type 0
 Sound m r (accepted d k l) = IsCodeword m r d
 Sound m r (refused e k l) = 0 < e
 
--- two answers that differ in nothing but c: "whether each call is accepted, the refusal's number, the rounds and the leaf count as
--- returned, and on acceptance all n output bytes"
-pub record Agree (c : List ℕ) (x y : Outcome) : Type 0 where
-  pub answer : answerOf y ≡ answerOf x
-  pub output : (k l : ℕ) → answerOf x ≡ values 0 k l → (out out′ : List ℕ) → outputOf y out′ ≡ addWords (outputOf x out) c
+-- the answers x and y to the words w and w′ of exponent m, which differ in nothing but c: "whether each call is accepted, the refusal's
+-- number, the rounds and the leaf count as returned, and on acceptance all n output bytes"; document 02, request 3: the places mended too
+pub record Agree (m : ℕ) (w w′ c : List ℕ) (x y : Outcome) : Type 0 where
+  pub answer : answerOf m w′ y ≡ answerOf m w x
+  pub output : refusalOf x ≡ 0 → (out out′ : List ℕ) → outputOf y out′ ≡ addWords (outputOf x out) c
 
-agree : (m r : ℕ) (c : List ℕ) (x y : Outcome) → Sound m r x → y ≡ shift c x → Agree c x y
-agree m r c (accepted d k l) y h e = record { answer = ap answerOf e; output = λ i j z out out′. ap (λ (o : Outcome). outputOf o out′) e }
-agree m r c (refused n k l) y h e = record { answer = ap answerOf e; output = λ i j z out out′. let q : n ≡ 0 = cc in absurd (omega arith) }
+-- by the word's own sum with c
+agree : (m r : ℕ) (w c : List ℕ) (x y : Outcome) → IsWord m w → IsWord m c → Sound m r x → y ≡ shift c x → Agree m w (addWords w c) c x y
+agree m r w c (accepted d k l) y hw hc h e = record {
+  answer = ap (answerOf m (addWords w c)) e ∙ ap (values 0 k l) (distance-add hw (h .word) hc);
+  output = λ z out out′. ap (λ (o : Outcome). outputOf o out′) e;
+}
+agree m r w c (refused n k l) y hw hc h e = record { answer = ap (answerOf m (addWords w c)) e; output = λ z out out′. absurd (omega arith) }
 
 -- ---- a reading under a leaf limit, after checks that make sure of the code
 
@@ -57,10 +61,11 @@ module _ (cs : List Check) (m r rounds leaves : ℕ) (code : firstRefusal cs ≡
       (λ e. ap (limited leaves) (reading-add r m rounds (code e .order) (code e .most) w c hw hc) ∙ limited-shift leaves (reading r m rounds w) c)
 
   answered-alike : (w w′ : List ℕ) → IsWord m w → IsWord m w′ → IsCodeword m r (addWords w w′)
-      → Agree (addWords w w′) (answered cs m r rounds leaves w) (answered cs m r rounds leaves w′)
+      → Agree m w w′ (addWords w w′) (answered cs m r rounds leaves w) (answered cs m r rounds leaves w′)
   answered-alike w w′ hw hw′ hc =
-      agree m r (addWords w w′) (answered cs m r rounds leaves w) (answered cs m r rounds leaves w′) (answered-sound w (λ e. hw))
-      (ap (answered cs m r rounds leaves) (add-cancel hw hw′) ∙ answered-add w (addWords w w′) hw hc)
+      subst (λ (v : List ℕ). Agree m w v (addWords w w′) (answered cs m r rounds leaves w) (answered cs m r rounds leaves v)) (sym (add-cancel hw hw′))
+      (agree m r w (addWords w w′) (answered cs m r rounds leaves w) (answered cs m r rounds leaves (addWords w (addWords w w′))) hw (word-add hw hw′)
+      (answered-sound w (λ e. hw)) (answered-add w (addWords w w′) hw hc))
 
 -- ---- limits given
 
@@ -83,13 +88,13 @@ module _ (m r rounds leaves : ℕ) where
       (λ e. buffers-passed m w room area (rest-passed checks (bufferChecks m w room area) tt e))
 
   module _ (w w′ : List ℕ) (hc : IsCodeword m r (addWords w w′)) where
-    pub demand-3 : IsWord m w → IsWord m w′ → Agree (addWords w w′) (decodeOf m r rounds leaves w) (decodeOf m r rounds leaves w′)
+    pub demand-3 : IsWord m w → IsWord m w′ → Agree m w w′ (addWords w w′) (decodeOf m r rounds leaves w) (decodeOf m r rounds leaves w′)
     unfolding decodeOf
     demand-3 hw hw′ = answered-alike checks m r rounds leaves (code-of (limitChecks rounds leaves)) w w′ hw hw′ hc
 
     -- two calls, in buffers of the right sizes
     pub demand-3-call : (room area room′ area′ : ℕ) → RightSizes m w room area → RightSizes m w′ room′ area′
-        → Agree (addWords w w′) (decodeCall m r rounds leaves w room area) (decodeCall m r rounds leaves w′ room′ area′)
+        → Agree m w w′ (addWords w w′) (decodeCall m r rounds leaves w room area) (decodeCall m r rounds leaves w′ room′ area′)
     demand-3-call room area room′ area′ h h′ = rw (call-is h r rounds leaves, call-is h′ r rounds leaves) (demand-3 (h .input) (h′ .input))
 
 -- ---- limits taken from a profile
@@ -112,10 +117,10 @@ module _ (number : ℕ) where
       (λ e. buffers-passed (p .m) w room area (rest-passed (profileChecks number) (bufferChecks (p .m) w room area) tt e))
 
   module _ (w w′ : List ℕ) (hc : IsCodeword (p .m) (p .r) (addWords w w′)) where
-    pub demand-3-profile : IsWord (p .m) w → IsWord (p .m) w′ → Agree (addWords w w′) (decodeProfileOf number w) (decodeProfileOf number w′)
+    pub demand-3-profile : IsWord (p .m) w → IsWord (p .m) w′ → Agree (p .m) w w′ (addWords w w′) (decodeProfileOf number w) (decodeProfileOf number w′)
     unfolding decodeProfileOf
     demand-3-profile hw hw′ = answered-alike (profileChecks number) (p .m) (p .r) (p .rounds) (p .leaves) (code-by []) w w′ hw hw′ hc
 
     pub demand-3-profile-call : (room area room′ area′ : ℕ) → RightSizes (p .m) w room area → RightSizes (p .m) w′ room′ area′
-        → Agree (addWords w w′) (decodeProfileCall number w room area) (decodeProfileCall number w′ room′ area′)
+        → Agree (p .m) w w′ (addWords w w′) (decodeProfileCall number w room area) (decodeProfileCall number w′ room′ area′)
     demand-3-profile-call room area room′ area′ h h′ = rw (profile-call-is number h, profile-call-is number h′) (demand-3-profile (h .input) (h′ .input))

@@ -9,7 +9,7 @@ use lib.ListN.{length}
 use borrow.Author.Tests.{leb-true}
 use Rattle.code.specs.Code.{dimension}
 use Rattle.code.specs.Dimension.{choose, dimension-choose}
-use Rattle.rule.specs.Decoding.{answerOf, values}
+use Rattle.rule.specs.Decoding.{refusalOf}
 use Rattle.rule.specs.Counts.{Noise, mostLeaves, reading-most, reading-noise}
 use Rattle.rule.specs.Decoding.{bufferChecks, decodeProfileCall, decodeProfileOf, limitChecks, limited, profileChecks}
 use Rattle.rule.specs.DecodingLaws.{after-cases, limited-within}
@@ -46,11 +46,11 @@ profile-most = each (λ (p : Profile). mostLeaves (p .r) (p .m) (p .rounds) ≡ 
 
 -- an answer whose number is not 12
 abbrev pub Not12 : Outcome → Type 0
-Not12 o = (k l : ℕ) → answerOf o ≡ values 12 k l → ⊥
+Not12 o = refusalOf o ≡ 12 → ⊥
 
 noise-not-12 : (o : Outcome) → Noise o → Not12 o
-noise-not-12 (accepted d i j) h k l e = let z : _≡_ {A = ℕ} 0 12 = cc in omega arith
-noise-not-12 (refused n i j) h k l e = let z : n ≡ 12 = cc in omega arith
+noise-not-12 (accepted d i j) h e = omega arith
+noise-not-12 (refused n i j) h e = omega arith
 
 -- the checks of a call by profile have other numbers
 checks-not-12 : (a b c d e : Bool) → firstRefusal (check 14 a ∷ check 5 b ∷ check 6 c ∷ check 7 d ∷ check 8 e ∷ []) ≡ 12 → ⊥
@@ -89,10 +89,10 @@ module _ (number : ℕ) where
   unfolding decodeProfileOf firstRefusal
   profile-not-12 w =
       after-cases (profileChecks number) _ Not12 (λ e. read-not-12 (number-passed [] e) w)
-      (λ e k l q. checks-not-12 (leb number 4) true true true true (cc))
+      (λ e q. checks-not-12 (leb number 4) true true true true q)
 
   pub profile-call-not-12 : (w : List ℕ) (room area : ℕ) → Not12 (decodeProfileCall number w room area)
   unfolding decodeProfileCall
   profile-call-not-12 w room area =
       after-cases (profileChecks number ++ bufferChecks (p .m) w room area) _ Not12 (λ e. read-not-12 (number-passed (bufferChecks (p .m) w room area) e) w)
-      (λ e k l q. checks-not-12 (leb number 4) (eqb (length w) (2 ^ p .m)) (eqb room (2 ^ p .m)) (leb (8 * 2 ^ p .m) area) (allBits w) (cc))
+      (λ e q. checks-not-12 (leb number 4) (eqb (length w) (2 ^ p .m)) (eqb room (2 ^ p .m)) (leb (8 * 2 ^ p .m) area) (allBits w) q)

@@ -5,25 +5,25 @@ use mathlib.Core.Bool.{true, cond}
 use mathlib.Core.List.{List}
 use lib.Dec.{eqb}
 use lib.IntN.{ℤ}
-use Rattle.refusals.specs.declared.Decoded.{Decoded}
-use Rattle.refusals.specs.declared.Decoded.the-variants.{Accepted, Refused}
 use Rattle.cosets.specs.Votes.{InProjection, castVote}
-use Rattle.rule.specs.Decoding.{Values, values}
+use Rattle.told.specs.Told.{Numbers, numbers}
 use Rattle.told.specs.declared.Told.{Told}
+use Rattle.told.specs.declared.Verdict.{Verdict}
+use Rattle.told.specs.declared.Verdict.the-variants.{Accepted, Refused}
 use Rattle.steps.specs.declared.Count.{Count}
 use Rattle.steps.specs.declared.Count.the-variants.{Done, Exhausted}
 
 -- the count that an answer brings: its leaves, and 1 where the direction abstains; none where its leaves ran out
-abbrev pub countIn : Values → Count
-countIn (values e k l) = cond (eqb e 12) Exhausted (Done l (cond (eqb e 0) 0 1))
+abbrev pub countIn : Numbers → Count
+countIn (numbers e k l) = cond (eqb e 12) Exhausted (Done l (cond (eqb e 0) 0 1))
 
 -- direction b's vote on place p after its reading's answer
-abbrev pub voteOf : ℕ → ℕ → List ℤ → Decoded → ℕ → ℕ
+abbrev pub voteOf : ℕ → ℕ → List ℤ → Verdict → ℕ → ℕ
 voteOf m b xs (Accepted k l) p = castVote m b xs p
 voteOf m b xs (Refused why k l) p = 0
 
 -- an accepted direction has its decoded word where the projection was
-abbrev pub Voter : ℕ → Decoded → List ℤ → Type 0
+abbrev pub Voter : ℕ → Verdict → List ℤ → Type 0
 Voter m (Accepted k l) xs = InProjection m xs
 Voter m (Refused why k l) xs = Unit {0}
 

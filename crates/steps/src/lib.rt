@@ -1,14 +1,14 @@
 // What a direction's answer does to the votes.
-use refusals::Decoded;
-use refusals::Refusal;
+use told::Noise;
 use told::Told;
+use told::Verdict;
 ghost use mathlib.Core.Path.{_≡_};
 ghost use Prim.Native.Nat.{ℕ, suc, _+_, _^_};
 ghost use lib.IntN.{pos, _+ℤ_};
 ghost use Rattle.words.specs.Written.{Written};
 ghost use Rattle.area.specs.Area.{at};
 ghost use Rattle.cosets.specs.Votes.{Projects, Tally};
-ghost use Rattle.rule.specs.Calls.{valuesOf};
+ghost use Rattle.told.specs.Told.{numbersIn};
 ghost use Rattle.steps.specs.Steps.{countIn, voteOf, Voter, Unmoved};
 
 // The leaf count of a direction or a round and how many directions abstained; or that the leaves left do not suffice.
@@ -18,10 +18,10 @@ pub enum Count {
 }
 
 // The count of a direction that abstains, unless its leaves ran out.
-fn abstain(why: Refusal, leaves: usize) -> Count
-    ensures { λ r. ⌜ ((k : ℕ) → r ≡ countIn (valuesOf (Decoded.Refused why k leaves))) ⌝ }
+fn abstain(why: Noise, leaves: usize) -> Count
+    ensures { λ r. ⌜ ((k : ℕ) → r ≡ countIn (numbersIn (Verdict.Refused why k leaves))) ⌝ }
 {
-    if let Refusal::TooManyLeaves = why {
+    if let Noise::TooManyLeaves = why {
         Count::Exhausted
     } else {
         Count::Done(leaves, 1)
@@ -35,18 +35,18 @@ pub fn cast(m: usize, b: usize, told: Told, area: &mut [i32]) -> Count
     requires { ⌜ Tally (2 ^ suc m) b (now area) ⌝ }
     requires { ⌜ Voter m (told .answer) (now area) ⌝ }
     requires { ⌜ Unmoved m b (now area) told ⌝ }
-    ensures counted { λ r. ⌜ r ≡ countIn (valuesOf (told .answer)) ⌝ }
+    ensures counted { λ r. ⌜ r ≡ countIn (numbersIn (told .answer)) ⌝ }
     ensures voted { λ r. ⌜ Written (pos 0) (2 ^ suc m) (2 ^ suc m) (λ p. at (now (area .entry)) (2 ^ suc m + p) +ℤ pos (voteOf m b (now (area .entry)) (told .answer) p)) (now (area .entry)) (now (area .exit)) ⌝ }
 {
     let answer = told.answer;
     match answer {
-        Decoded::Accepted(_, leaves) => {
+        Verdict::Accepted(_, leaves) => {
             if told.kept {
                 return Count::Done(leaves, 0);
             }
             votes::add_votes(m, b, area);
             Count::Done(leaves, 0)
         }
-        Decoded::Refused(why, _, leaves) => abstain(why, leaves),
+        Verdict::Refused(why, _, leaves) => abstain(why, leaves),
     }
 }

@@ -12,7 +12,7 @@ use Rattle.area.specs.AreaLaws.{wordOf-same}
 use Rattle.rule.specs.Reading.{Outcome, accepted, refused}
 use Rattle.told.specs.Told.{Holds, Read, Kept}
 use Rattle.told.specs.declared.Told.{Told}
-use Rattle.refusals.specs.declared.Decoded.{Decoded}
+use Rattle.told.specs.declared.Verdict.{Verdict}
 
 -- the first k numbers, of which the first n are the word
 module _ {n k : ℕ} (xs : List ℤ) (within : n ≤ k) (room : k ≤ length xs) where
@@ -40,7 +40,7 @@ module _ {n k : ℕ} (xs : List ℤ) (within : n ≤ k) (room : k ≤ length xs)
     holds-back (accepted d r l) f = record { size = f .size; each = λ p h. back-at p h ∙ f .each p h; bits = f .bits }
     holds-back (refused w r l) u = u
 
-    pub read-back : {o : Outcome} {a : Decoded} → Read n o ys a → Read n o (putMid 0 k xs ys) a
+    pub read-back : {o : Outcome} {a : Verdict} → Read n o ys a → Read n o (putMid 0 k xs ys) a
     read-back {o} r = record { said = r .said; word = holds-back o (r .word) }
 
     same-back : SameFront n (take k xs) ys → SameFront n xs (putMid 0 k xs ys)

@@ -49,6 +49,11 @@ sum-ext = total-ext _+_ 0
 pub sum-halves : (m : ℕ) (f : ℕ → ℕ) → sumBelow (2 ^ suc m) f ≡ sumBelow (2 ^ m) f + sumBelow (2 ^ m) (λ p. f (2 ^ m + p))
 sum-halves = total-halves _+_ 0 add-zero add-assoc
 
+-- a loop's next turn
+pub sum-more : (n : ℕ) (f : ℕ → ℕ) → sumBelow (n + 1) f ≡ sumBelow n f + f n
+unfolding total
+sum-more n f = rw add-one
+
 -- the same parity
 pub sum-parity : (n : ℕ) (f g : ℕ → ℕ) → ((p : ℕ) → p < n → f p % 2 ≡ g p % 2) → sumBelow n f % 2 ≡ sumBelow n g % 2
 unfolding total

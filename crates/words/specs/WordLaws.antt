@@ -9,8 +9,8 @@ use native.Mathlib.Omega.{arith}
 use lib.ListN.{length, List·getD-eq-default}
 use lib.Seq.{ext-getD}
 use Rattle.words.specs.Sum.{tabulate}
-use Rattle.words.specs.SumLaws.{length-tabulate, bit-tabulate}
-use Rattle.words.specs.Word.{bit, indicator, IsWord, addWords}
+use Rattle.words.specs.SumLaws.{length-tabulate, bit-tabulate, sum-ext}
+use Rattle.words.specs.Word.{bit, indicator, IsWord, addWords, distance}
 
 -- omega gives up on nested remainders: strip them first, then sort the sum
 pub ruleset unmod = (mod-add-mod, add-mod-mod)
@@ -72,3 +72,10 @@ module _ {m : ℕ} where
   add-cancel hu hv =
       word-ext hv (word-add hu (word-add hu hv))
       (λ p l. omega (arith, word-bit hu hv p, word-bit hu (word-add hu hv) p, hv .bits p))
+
+-- a word added to both leaves the distance
+pub distance-add : {m : ℕ} {w v c : List ℕ} → IsWord m w → IsWord m v → IsWord m c → distance m (addWords w c) (addWords v c) ≡ distance m w v
+unfolding distance
+distance-add {m} {w} {v} {c} hw hv hc =
+    sum-ext (2 ^ m) (λ p. (bit (addWords w c) p + bit (addWords v c) p) % 2) (λ p. (bit w p + bit v p) % 2)
+    (λ p l. rw (word-bit hw hc p, word-bit hv hc p) (simp unmod (omega arith)))

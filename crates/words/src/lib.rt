@@ -4,7 +4,8 @@ ghost use Prim.Native.Nat.{_^_, _≤_};
 ghost use lib.ListN.{length};
 ghost use lib.Dec.{ltb};
 ghost use Rattle.words.specs.Sum.{allBelow};
-ghost use Rattle.words.specs.Word.{lowestBad, bit};
+ghost use Rattle.words.specs.Word;
+ghost use Rattle.words.specs.Word.{IsWord, lowestBad, bit};
 
 // The number of places of a word of exponent m.
 pub fn size(m: usize) -> usize
@@ -50,4 +51,17 @@ pub fn copy(src: &[u8], dst: &mut [u8])
     for i in 0..dst.len() {
         dst[i] = src[i];
     }
+}
+
+// The number of places where two words differ.
+pub fn distance(m: usize, u: &[u8], v: &[u8]) -> usize
+    requires { ⌜ (m ≤ 10) × IsWord m (now u) × IsWord m (now v) ⌝ }
+    ensures { λ d. ⌜ d ≡ Rattle.words.specs.Word.distance m (now (u .entry)) (now (v .entry)) ⌝ }
+{
+    let n = size(m);
+    let mut d = 0;
+    for p in 0..n {
+        d += (u[p] ^ v[p]) as usize;
+    }
+    d
 }

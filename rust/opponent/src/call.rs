@@ -5,8 +5,15 @@ pub struct Answer {
     pub refusal: u8,
     pub rounds: usize,
     pub leaves: usize,
+    /// The places where the accepted word differs from the received one.
+    pub mended: usize,
     /// The place that 8 names.
     pub place: usize,
+}
+
+/// The places where two words differ.
+pub fn differing(word: &[u8], out: &[u8]) -> usize {
+    word.iter().zip(out).map(|(a, b)| (a ^ b) as usize).sum()
 }
 
 impl Answer {

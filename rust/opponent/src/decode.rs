@@ -1,6 +1,6 @@
 //! The decoder's calls.
 
-use crate::call::{check_decoding, Answer};
+use crate::call::{check_decoding, differing, Answer};
 use crate::profiles::profile;
 use crate::reading::{Outcome, Reader};
 use crate::word::{pack, unpack};
@@ -34,10 +34,12 @@ pub fn decode(
         Outcome::Unsettled => 11,
         Outcome::Exhausted => return Answer { leaves, ..Answer::refused(12) },
     };
+    let mut mended = 0;
     if refusal == 0 {
         unpack(&work.levels[0].word, out);
+        mended = differing(word, out);
     }
-    Answer { refusal, rounds: made, leaves: count, place: 0 }
+    Answer { refusal, rounds: made, leaves: count, mended, place: 0 }
 }
 
 /// Decodes under a profile.

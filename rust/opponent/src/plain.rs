@@ -5,7 +5,7 @@ mod cosets;
 mod leaf;
 mod reading;
 
-use crate::call::{check_decoding, Answer};
+use crate::call::{check_decoding, differing, Answer};
 use crate::profiles::profile;
 use codes::bad_byte;
 pub use codes::{encode, is_codeword, read_message};
@@ -35,10 +35,12 @@ pub fn decode(
     if refusal == 12 {
         return Answer { leaves, ..Answer::refused(12) };
     }
+    let mut mended = 0;
     if refusal == 0 {
         out.copy_from_slice(&work.levels[0].rows[0][..word.len()]);
+        mended = differing(word, out);
     }
-    Answer { refusal, rounds: made, leaves: reader.leaves as usize, place: 0 }
+    Answer { refusal, rounds: made, leaves: reader.leaves as usize, mended, place: 0 }
 }
 
 /// Decodes under a profile.

@@ -1,11 +1,12 @@
 //! Answers and limits of a call.
 
-/// Refusal or 0, rounds, leaf count, and the place that 8 names.
+/// Refusal or 0, rounds, leaf count, the places mended, and the place that 8 names.
 #[derive(Clone, Copy, PartialEq, Eq, Debug, Default)]
 pub struct Answer {
     pub refusal: u8,
     pub rounds: usize,
     pub leaves: usize,
+    pub mended: usize,
     pub place: usize,
 }
 

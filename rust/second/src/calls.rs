@@ -116,7 +116,20 @@ impl Second {
             Err(Failure::Unsettled) => 11,
         };
         let leaves = reader.leaves.count() as usize;
-        (Answer { refusal, rounds: reading.rounds, leaves, place: 0 }, reading.result.ok())
+        let decoded = reading.result.ok();
+        let mended = self.mended(r, word, decoded.as_deref());
+        (Answer { refusal, rounds: reading.rounds, leaves, mended, place: 0 }, decoded)
+    }
+
+    /// The places where the accepted word differs from the received one; 0 on a refusal.
+    fn mended(&self, r: usize, word: &[u8], decoded: Option<&[u8]>) -> usize {
+        match (decoded, self.fault) {
+            (None, Fault::OneMendedOnRefusal) => 1,
+            (None, _) => 0,
+            (Some(_), Fault::NoneMendedAtOrderOne) if r == 1 => 0,
+            (Some(decoded), Fault::OnesMended) => decoded.iter().filter(|bit| **bit == 1).count(),
+            (Some(decoded), _) => (0..word.len()).filter(|p| word[*p] != decoded[*p]).count(),
+        }
     }
 
     fn write(&self, word: &[u8], decoded: Option<Vec<u8>>, out: &mut [u8]) {
@@ -151,6 +164,6 @@ impl Second {
             }
             _ => return answer,
         };
-        Answer { refusal, rounds, leaves, place: 0 }
+        Answer { refusal, rounds, leaves, ..answer }
     }
 }

@@ -57,6 +57,12 @@ pub enum Fault {
     AreaTailKept,
     /// The area is cleared after 8 too.
     AreaClearedAfter8,
+    /// A refusal has one place mended.
+    OneMendedOnRefusal,
+    /// At order 1 no place is mended.
+    NoneMendedAtOrderOne,
+    /// The ones of the accepted word are the places mended.
+    OnesMended,
     /// 8 names the greatest place whose byte is above 1.
     HighestBadPlace,
     /// The search for the place that 8 names starts at place 1.
@@ -72,7 +78,7 @@ pub enum Fault {
 }
 
 impl Fault {
-    pub const ALL: [Fault; 34] = [
+    pub const ALL: [Fault; 37] = [
         Fault::LowerMask,
         Fault::FlipsDuringRound,
         Fault::AbstainerVotesZeros,
@@ -101,6 +107,9 @@ impl Fault {
         Fault::AreaNotCleared,
         Fault::AreaTailKept,
         Fault::AreaClearedAfter8,
+        Fault::OneMendedOnRefusal,
+        Fault::NoneMendedAtOrderOne,
+        Fault::OnesMended,
         Fault::HighestBadPlace,
         Fault::BadPlaceFromOne,
         Fault::PlaceAfterBad,

@@ -21,7 +21,7 @@ run-requires c κs =
 
 returns : tie.Need-returns
 unfolding decodeCall
-returns c = checks-refused (c .before .before .before .call .ensures) _ _ _ refl (c .before .checked .given .1)
+returns c = checks-refused (c .before .before .before .call .ensures) _ _ _ _ refl (c .before .checked .given .1)
 
 same-length : tie.Need-same-length
 same-length c = search needs

@@ -16,7 +16,7 @@ within c = omega (arith, c .if1 .left)
 
 returns : tie.Need-returns
 unfolding decodeProfileCall
-returns c = checks-refused (refuses Profile (λ e. omega arith) (fails 14 _ _ (lt-leb _ 4 (c .if1 .taken)))) _ _ _ refl refl
+returns c = checks-refused (refuses Profile (λ e. omega arith) (fails 14 _ _ (lt-leb _ 4 (c .if1 .taken)))) _ _ _ _ refl refl
 
 by-number-requires : tie.Need-by-number-requires
 by-number-requires c κs = search needs
@@ -39,7 +39,7 @@ returns-2 : tie.Need-returns-2
 unfolding decodeProfileCall
 returns-2 c =
     let b = c .before .before .before in
-    checks-refused (profile-checked _ (b .before .by-number .ensures) (within (b .before .before)) _ _ (b .buffers .ensures)) _ _ _ refl (c .before .checked .given .1)
+    checks-refused (profile-checked _ (b .before .by-number .ensures) (within (b .before .before)) _ _ (b .buffers .ensures)) _ _ _ _ refl (c .before .checked .given .1)
 
 same-length : tie.Need-same-length
 same-length c = search needs

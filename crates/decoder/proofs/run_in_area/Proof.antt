@@ -4,7 +4,7 @@ use mathlib.Core.Path.{ap, _∙_}
 use lib.IntN.{pos}
 use lib.ListN.{replicate}
 use borrow.Author.Needs.{needs}
-use Rattle.decoder.proofs.Whole.{loaded-ready, read-delivers, read-gives, gives-decodes}
+use Rattle.decoder.proofs.Whole.{loaded-ready, read-delivers, read-gives}
 use Rattle.decoder.proofs.run_in_area.Statement.{statement}
 use Rattle.decoder.proofs.run_in_area.Tie as tie
 
@@ -25,6 +25,7 @@ deliver-requires c κs =
       loads = record { runs = l .before .before .before .before .pre; loaded = l .load .ensures };
       same = r .reading .kept .1 .1 .1 .1 .0;
       read = r .reading .ensures .0;
+      kept = r .reading .ensures .1;
     })
 
 fill-requires : tie.Need-fill-requires
@@ -42,12 +43,12 @@ returns c =
     let r = v .before .before .before .before in
     let l = r .before .before .before in
     let same = r .reading .kept .1 .1 .1 .1 .0 in
-    let loaded = l .load .ensures in
-    gives-decodes _ _ _ _ _
-    (read-gives
-    (record { loads = record { runs = l .before .before .before .before .pre; loaded = loaded }; same = same; read = r .reading .ensures .0 })
-    (v .deliver .ensures))
-    (c .before .fill .ensures ∙ ap (λ (n : ℕ). replicate n (pos 0)) (same ∙ loaded .long))
+    let loaded = l .load .ensures in (
+      read-gives
+          (record { loads = record { runs = l .before .before .before .before .pre; loaded = loaded }; same = same; read = r .reading .ensures .0; kept = r .reading .ensures .1 })
+          (v .deliver .ensures),
+      c .before .fill .ensures ∙ ap (λ (n : ℕ). replicate n (pos 0)) (same ∙ loaded .long),
+    )
 
 pub run-in-area-spec : {M : Type 1} → statement M
 run-in-area-spec =

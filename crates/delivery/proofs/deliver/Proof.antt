@@ -2,7 +2,7 @@
 use borrow.Author.Needs.{needs}
 use mathlib.Core.Path.{sym, ap, subst, _∙_}
 use lib.ListN.{length}
-use Rattle.refusals.specs.declared.Decoded.{Decoded}
+use Rattle.told.specs.declared.Verdict.{Verdict}
 use Rattle.delivery.specs.Delivery.{Deliverable, delivered}
 use Rattle.delivery.proofs.deliver.Statement.{statement}
 use Rattle.delivery.proofs.deliver.Tie as tie
@@ -13,7 +13,7 @@ enum-told c = search needs
 store-requires : tie.Need-store-requires
 store-requires c κs =
     let s = c .before .before .before .before in
-    subst (λ (d : Decoded). Deliverable (length (s .args .out .now)) d (s .args .area .now)) (c .before .enum-told .given .1) (s .pre)
+    subst (λ (a : Verdict). Deliverable (length (s .args .out .now)) a (s .args .area .now)) (c .before .enum-told .given .1) (s .pre)
 
 enum-told-2 : tie.Need-enum-told-2
 enum-told-2 c = search needs
@@ -25,7 +25,7 @@ returns : tie.Need-returns
 returns c =
     let s = c .before .before .before .before .before .before .before in
     c .before .before .store .ensures
-    ∙ ap (λ (d : Decoded). delivered d (s .args .out .now) (s .args .area .now)) (sym (c .before .before .before .before .enum-told .given .1))
+    ∙ ap (λ (a : Verdict). delivered a (s .args .out .now) (s .args .area .now)) (sym (c .before .before .before .before .enum-told .given .1))
 
 returns-2 : tie.Need-returns-2
 returns-2 c = search needs

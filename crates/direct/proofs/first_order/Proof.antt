@@ -70,17 +70,23 @@ find-peak-requires c κs =
     let k = c .before .before .before in
     quads-sought (start k .pre) _ _ (sizes k) (k .correlate .ensures)
 
+changed-requires : tie.Need-changed-requires
+changed-requires c κs = search needs
+
 same-length-2 : tie.Need-same-length-2
 same-length-2 c = search needs
 
 returns-2 : tie.Need-returns-2
-returns-2 c = tie-gives (peaked (c .before .before)) (not-true _ (c .if2 .taken))
+returns-2 c = tie-gives (peaked (c .before .before .before)) (c .changed .ensures) (not-true _ (c .before .if2 .taken))
 
 write-affine-requires : tie.Need-write-affine-requires
 write-affine-requires c κs =
     let e = c .before .before in
     let f = e .before .before in
     peak-writes (start (f .before .before .before .before) .pre) (peaked f) (not-false _ (e .if2 .left))
+
+changed-requires-2 : tie.Need-changed-requires-2
+changed-requires-2 c κs = search needs
 
 same-length-3 : tie.Need-same-length-3
 same-length-3 c = search needs
@@ -90,9 +96,9 @@ same-length-4 c = search needs
 
 returns-3 : tie.Need-returns-3
 returns-3 c =
-    let e = c .before .before .before .before .before in
+    let e = c .before .before .before .before .before .before in
     let f = e .before .before in
-    written-gives (peaked f) (not-false _ (e .if2 .left)) _ (start (f .before .before .before .before) .pre .output) (c .before .before .write-affine .ensures)
+    written-gives (peaked f) (not-false _ (e .if2 .left)) (c .changed2 .ensures) _ (start (f .before .before .before .before) .pre .output) (c .before .before .before .write-affine .ensures)
 
 pub first-order-spec : {M : Type 1} → statement M
 first-order-spec =
@@ -110,9 +116,11 @@ first-order-spec =
     part-find-peak-start
     part-find-peak-end
     find-peak-requires
+    changed-requires
     same-length-2
     returns-2
     write-affine-requires
+    changed-requires-2
     same-length-3
     same-length-4
     returns-3)

@@ -4,14 +4,14 @@ use Prim.Native.Nat.{ℕ}
 use mathlib.Core.Path.{sym, ap, _∙_}
 use mathlib.Core.Bool.{Bool, cond, false≢true}
 use borrow.Author.Tests.{eqb-true}
-use Rattle.refusals.specs.declared.Refusal.the-variants.{Unsettled}
-use Rattle.refusals.specs.declared.Decoded.{Decoded}
-use Rattle.refusals.specs.declared.Decoded.the-variants.{Accepted, Refused}
+use Rattle.told.specs.declared.Noise.the-variants.{Unsettled}
+use Rattle.told.specs.declared.Verdict.{Verdict}
+use Rattle.told.specs.declared.Verdict.the-variants.{Accepted, Refused}
 use Rattle.flips.proofs.settle.Statement.{statement}
 use Rattle.flips.proofs.settle.Tie as tie
 
 -- the answer by the test
-abbrev answer : ℕ → ℕ → Bool → Decoded
+abbrev answer : ℕ → ℕ → Bool → Verdict
 answer k used t = cond t (Accepted k used) (Refused Unsettled k used)
 
 holds-codeword-requires : tie.Need-holds-codeword-requires

@@ -2,12 +2,12 @@
 use Prim.Native.Nat.{ℕ, _+_, _-_, _≤_, _<_}
 use mathlib.Core.Path.{_≡_, refl, ap, _∙_}
 use mathlib.Core.Logic.{⊎-elim}
-use native.Mathlib.Numerals.{add-one}
 use native.Mathlib.Omega.{arith}
 use lib.IntN.{ℤ, natAbs}
 use mir.Syntax.{w32}
 use mir.Val.{ofZ}
 use borrow.Author.Needs.{needs}
+use Rattle.words.specs.SumLaws.{sum-more}
 use Rattle.words.specs.Sum.{total, sumBelow}
 use Rattle.words.specs.Word.{bit}
 use Rattle.area.specs.Area.{at, IsBit, zero-bit, one-bit, wordOf}
@@ -23,10 +23,6 @@ bit-some one-bit f = refl
 bit-none : {z : ℤ} → IsBit z → ofZ w32 z ≡ 0 → natAbs z ≡ 0
 bit-none zero-bit e = refl
 bit-none one-bit e = absurd (omega arith)
-
-sum-more : (n : ℕ) (f : ℕ → ℕ) → sumBelow (n + 1) f ≡ sumBelow n f + f n
-unfolding total
-sum-more n f = rw add-one
 
 abbrev Inv-loop : tie.InvT-loop
 Inv-loop n area k₀ p₀ k p = (p ≤ n) × (k ≡ sumBelow p (bit (wordOf n area))) × (k ≤ p)

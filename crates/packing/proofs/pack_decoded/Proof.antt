@@ -1,10 +1,15 @@
 -- `packing::pack_decoded` meets its contract. Assumes nothing.
 use Prim.Native.Nat.{ℕ}
 use mathlib.Core.Path.{sym, ap, ap₂, _∙_}
-use Rattle.packing.specs.Packing.{pack, packDecoded}
+use Rattle.packing.specs.Packing.{pack, packValues}
+use Rattle.refusals.specs.declared.Decoded.{Decoded}
+use Rattle.rule.specs.Calls.{valuesOf, decodedPlace}
 use borrow.Author.Needs.{needs}
 use Rattle.packing.proofs.pack_decoded.Statement.{statement}
 use Rattle.packing.proofs.pack_decoded.Tie as tie
+
+abbrev packed : Decoded → ℕ
+packed d = packValues (valuesOf d) (decodedPlace d)
 
 enum-known-answer : tie.Need-enum-known-answer
 enum-known-answer c = search needs
@@ -25,13 +30,13 @@ pack-requires-2 : tie.Need-pack-requires-2
 pack-requires-2 c κs = search needs
 
 returns : tie.Need-returns
-returns c = c .pack .ensures ∙ ap packDecoded (sym (c .before .before .answer .given .1))
+returns c = c .pack .ensures ∙ ap packed (sym (c .before .before .answer .given .1))
 
 returns-2 : tie.Need-returns-2
 returns-2 c =
     let x = c .before .before .before .before .answer2 .given .0 in
-    c .pack2 .ensures ∙ ap₂ (λ (n p : ℕ). pack n (x .1 .0) (x .1 .1 .0) p) (c .before .before .number .ensures) (c .before .place .ensures)
-    ∙ ap packDecoded (sym (c .before .before .before .before .answer2 .given .1))
+    c .pack2 .ensures ∙ ap₂ (λ (n p : ℕ). pack n (x .1 .0) (x .1 .1 .0) 0 p) (c .before .before .number .ensures) (c .before .place .ensures)
+    ∙ ap packed (sym (c .before .before .before .before .answer2 .given .1))
 
 pub pack-decoded-spec : {M : Type 1} → statement M
 pack-decoded-spec =

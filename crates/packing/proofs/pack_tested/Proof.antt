@@ -1,10 +1,15 @@
 -- `packing::pack_tested` meets its contract. Assumes nothing.
 use Prim.Native.Nat.{ℕ}
 use mathlib.Core.Path.{sym, ap, ap₂, _∙_}
-use Rattle.packing.specs.Packing.{pack, packTested}
+use Rattle.packing.specs.Packing.{pack, yesOf}
+use Rattle.codec.specs.Calls.{testedNumber, testedPlace}
+use Rattle.codec.specs.declared.Tested.{Tested}
 use borrow.Author.Needs.{needs}
 use Rattle.packing.proofs.pack_tested.Statement.{statement}
 use Rattle.packing.proofs.pack_tested.Tie as tie
+
+abbrev packed : Tested → ℕ
+packed a = pack (testedNumber a) (yesOf a) 0 0 (testedPlace a)
 
 enum-told : tie.Need-enum-told
 enum-told c = search needs
@@ -28,15 +33,15 @@ pack-requires-2 : tie.Need-pack-requires-2
 pack-requires-2 c κs = search needs
 
 returns : tie.Need-returns
-returns c = search needs
+returns c = c .pack .ensures ∙ ap packed (sym (c .before .enum-told .given .1))
 
 returns-2 : tie.Need-returns-2
-returns-2 c = search needs
+returns-2 c = ap packed (sym (c .enum-told2 .given .1))
 
 returns-3 : tie.Need-returns-3
 returns-3 c =
-    c .pack2 .ensures ∙ ap₂ (λ (n p : ℕ). pack n 0 0 p) (c .before .before .number .ensures) (c .before .place .ensures)
-    ∙ ap packTested (sym (c .before .before .before .before .answer .given .1))
+    c .pack2 .ensures ∙ ap₂ (λ (n p : ℕ). pack n 0 0 0 p) (c .before .before .number .ensures) (c .before .place .ensures)
+    ∙ ap packed (sym (c .before .before .before .before .answer .given .1))
 
 pub pack-tested-spec : {M : Type 1} → statement M
 pack-tested-spec =

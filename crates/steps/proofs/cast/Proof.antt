@@ -6,17 +6,17 @@ use lib.IntN.{ℤ, pos, _+ℤ_, +ℤ-idr}
 use borrow.Author.Needs.{needs}
 use Rattle.words.specs.Written.{Written}
 use Rattle.area.specs.Area.{at}
-use Rattle.rule.specs.Calls.{valuesOf}
+use Rattle.told.specs.Told.{numbersIn}
+use Rattle.told.specs.declared.Verdict.{Verdict}
 use Rattle.steps.specs.Steps.{countIn, voteOf, Voter}
 use Rattle.steps.specs.declared.Count.{Count}
-use Rattle.refusals.specs.declared.Decoded.{Decoded}
 use Rattle.steps.proofs.cast.Statement.{statement}
 use Rattle.steps.proofs.cast.Tie as tie
 
 -- what is promised after an answer
-abbrev Promised : (m b : ℕ) (xs ys : List ℤ) (count : Count) → Decoded → Type 0
+abbrev Promised : (m b : ℕ) (xs ys : List ℤ) (count : Count) → Verdict → Type 0
 Promised m b xs ys count answer =
-    (count ≡ countIn (valuesOf answer))
+    (count ≡ countIn (numbersIn answer))
     × Written (pos 0) (2 ^ suc m) (2 ^ suc m) (λ p. at xs (2 ^ suc m + p) +ℤ pos (voteOf m b xs answer p)) xs ys
 
 -- votes that are all 0 need not be added
@@ -35,14 +35,14 @@ returns : tie.Need-returns
 returns c =
     let s = c .before .before .before .before in
     let a = s .args in (
-      ap (λ (d : Decoded). countIn (valuesOf d)) (sym (c .before .before .answer .given .1)),
+      ap (λ (v : Verdict). countIn (numbersIn v)) (sym (c .before .before .answer .given .1)),
       no-votes (2 ^ suc (a .m)) (a .area .now) (voteOf (a .m) (a .b) (a .area .now) (a .told .answer)) (s .pre .1 .1 .1 .none (c .if1 .taken)),
     )
 
 add-votes-requires : tie.Need-add-votes-requires
 add-votes-requires c κs =
     let s = c .before .before .before .before .before in
-    let voter = subst (λ (a : Decoded). Voter (s .args .m) a (s .args .area .now)) (c .before .before .before .answer .given .1) (s .pre .1 .1 .0) in
+    let voter = subst (λ (v : Verdict). Voter (s .args .m) v (s .args .area .now)) (c .before .before .before .answer .given .1) (s .pre .1 .1 .0) in
     (s .pre .0, (s .pre .1 .0, voter))
 
 enum-known-answer-2 : tie.Need-enum-known-answer-2

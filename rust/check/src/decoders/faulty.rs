@@ -12,8 +12,8 @@ impl Faulty {
 }
 
 fn answer(from: second::Answer) -> Answer {
-    let place = from.place as u64;
-    Answer { place, ..Answer::numbers(from.refusal as u64, from.rounds as u64, from.leaves as u64) }
+    let (mended, place) = (from.mended as u64, from.place as u64);
+    Answer { mended, place, ..Answer::numbers(from.refusal as u64, from.rounds as u64, from.leaves as u64) }
 }
 
 impl Decoder for Faulty {

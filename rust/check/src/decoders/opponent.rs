@@ -19,8 +19,8 @@ impl Opponent {
 }
 
 fn answer(from: opponent::Answer) -> Answer {
-    let place = from.place as u64;
-    Answer { place, ..Answer::numbers(from.refusal as u64, from.rounds as u64, from.leaves as u64) }
+    let (mended, place) = (from.mended as u64, from.place as u64);
+    Answer { mended, place, ..Answer::numbers(from.refusal as u64, from.rounds as u64, from.leaves as u64) }
 }
 
 impl Decoder for Opponent {
