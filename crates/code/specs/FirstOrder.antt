@@ -13,7 +13,8 @@ use Rattle.code.specs.Code.{codewordTest}
 use Rattle.code.specs.Codewords.{codeword-of-test, codeword-of-low, low-of-codeword, test-of-codeword}
 use Rattle.code.specs.Degree.{low-parity}
 use Rattle.code.specs.Affine.{constant-of-low, low-constant}
-use Rattle.code.specs.Halves.{firstHalf, sumHalves, bit-first, bit-sum, word-first, word-sum, codeword-first, codeword-sum, codeword-join, codeword-full}
+use Rattle.code.specs.Halves.{bit-first, bit-sum, word-first, word-sum, codeword-first, codeword-sum, codeword-join, codeword-full}
+use Rattle.code.specs.TestSteps.{allEqual, firstHalf, sumHalves}
 use Rattle.words.specs.Sum.{allBelow, total}
 use Rattle.words.specs.SumLaws.{all-ext, all-true, true-all, both-true, same-test}
 use Rattle.words.specs.Word.{IsWord, bit}
@@ -50,7 +51,7 @@ module _ (m : ℕ) (w : List ℕ) (hw : IsWord (suc m) w) where
       (test-of-codeword m r _ (codeword-sum m w hw r c)))
 
 -- at order 0 all bits are equal
-pub test-equal : (m : ℕ) (w : List ℕ) → IsWord m w → allBelow (2 ^ m) (λ i. eqb (bit w i) (bit w 0)) ≡ codewordTest m 0 w
+pub test-equal : (m : ℕ) (w : List ℕ) → IsWord m w → allEqual (2 ^ m) w ≡ codewordTest m 0 w
 test-equal m w hw =
     same-test (allBelow (2 ^ m) same) _
     (λ e. test-of-codeword m 0 w
@@ -76,7 +77,7 @@ levels-test (suc m) w f hw same =
     sum-is : (p q : ℕ) → p < 2 ^ m → q ≡ 2 ^ m + p → (f p + f q) % 2 ≡ bit (sumHalves m w) p
     sum-is p q l e = rw e (ap₂ (λ (x y : ℕ). (x + y) % 2) (same p (omega arith)) (same (2 ^ m + p) (omega arith))) ∙ sym (bit-sum m w hw p l)
 
-    repeats-constant : repeats f (2 ^ m) ≡ allBelow (2 ^ m) (λ i. eqb (bit (sumHalves m w) i) (bit (sumHalves m w) 0))
+    repeats-constant : repeats f (2 ^ m) ≡ allEqual (2 ^ m) (sumHalves m w)
     repeats-constant =
         all-ext (2 ^ m) _ _ (λ i l. ap₂ eqb (sum-is i (2 ^ m + i) l refl) (sum-is 0 (2 ^ m) (pow-pos m) (omega arith)))
 

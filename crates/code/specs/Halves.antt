@@ -1,29 +1,17 @@
 -- Degree by halves: a word of exponent m + 1 is a codeword of order r + 1 exactly when its first half is one of order r + 1 and the sum of
 -- its halves one of order r. Assumes nothing.
-use Prim.Native.Nat.{ℕ, zero, suc, _+_, _%_, _^_, _≤_, _<_}
-use mathlib.Core.Path.{_≡_, refl, sym, ap, ap₂, _∙_}
-use mathlib.Core.Bool.{Bool, true, false, cond}
+use Prim.Native.Nat.{ℕ, suc, _+_, _%_, _^_, _≤_, _<_}
+use mathlib.Core.Path.{_≡_, sym, ap, ap₂, _∙_}
 use mathlib.Core.List.{List}
-use native.Mathlib.Decide.{ℕ-discrete}
 use native.Mathlib.Omega.{arith}
-use lib.Dec.{eqb}
-use lib.ListN.{take, drop, length-take, length-drop}
+use lib.ListN.{length-take, length-drop}
 use lib.Seq.{getD-take, getD-drop}
-use borrow.Author.Tests.{eqb-true, eq-eqb, ne-eqb}
 use Rattle.code.specs.Code.{IsCodeword}
 use Rattle.code.specs.Codewords.{codeword-of-low, low-of-codeword}
 use Rattle.code.specs.Degree.{low-first, low-full, low-join, low-parity, low-sum}
-use Rattle.words.specs.Word.{IsWord, addWords, bit}
+use Rattle.code.specs.TestSteps.{firstHalf, secondHalf, sumHalves}
+use Rattle.words.specs.Word.{IsWord, bit}
 use Rattle.words.specs.WordLaws.{bit-add, word-add, word-of-bits}
-
-abbrev pub firstHalf : ℕ → List ℕ → List ℕ
-firstHalf m w = take (2 ^ m) w
-
-abbrev pub secondHalf : ℕ → List ℕ → List ℕ
-secondHalf m w = drop (2 ^ m) w
-
-abbrev pub sumHalves : ℕ → List ℕ → List ℕ
-sumHalves m w = addWords (firstHalf m w) (secondHalf m w)
 
 module _ (m : ℕ) (w : List ℕ) (hw : IsWord (suc m) w) where
   pub bit-first : (p : ℕ) → p < 2 ^ m → bit (firstHalf m w) p ≡ bit w p

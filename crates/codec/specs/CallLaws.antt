@@ -10,8 +10,10 @@ use Rattle.refusals.specs.declared.Answer.{Answer}
 use Rattle.refusals.specs.declared.Answer.the-variants.{Done, Refused}
 use Rattle.refusals.specs.Refusals.{Check, Checked, numberOf, answerNumber, answerPlace, placeNamed, firstRefusal}
 use Rattle.refusals.specs.CheckLaws.{done-of, number-pos, other-place}
-use Rattle.code.specs.Code.{codewordTest}
+use Rattle.code.specs.TestStepLaws.{steps-test}
+use Rattle.code.specs.TestSteps.{stepsTest}
 use Rattle.codec_checks.specs.Checks.{testChecks}
+use Rattle.codec_checks.specs.Passed.{test-passed}
 use Rattle.codec.specs.Calls.{Calls, Tests, testedNumber, testedPlace, verdict}
 use Rattle.codec.specs.declared.Tested.{Tested}
 
@@ -48,11 +50,13 @@ test-refused {m} {r} {word} {a} {why} c e = record {
   number = ap answerNumber (sym e) ∙ c .number;
   place = ap answerPlace (sym e) ∙ c .place;
   answer = λ z. absurd (omega (arith, number-pos why, ap answerNumber e, c .number));
+  steps = λ z. absurd (omega (arith, number-pos why, ap answerNumber e, c .number));
 }
 
-pub test-done : {m r : ℕ} {word : List ℕ} {a : Tested} → 0 ≡ firstRefusal (testChecks m r word) → a ≡ verdict (codewordTest m r word) → Tests m r word a
+pub test-done : {m r : ℕ} {word : List ℕ} {a : Tested} → 0 ≡ firstRefusal (testChecks m r word) → a ≡ verdict (stepsTest m r word) → Tests m r word a
 test-done {m} {r} {word} {a} e h = record {
-  number = rw h (verdict-number (codewordTest m r word) ∙ e);
-  place = rw h (verdict-place (codewordTest m r word) ∙ no-place word e);
-  answer = λ z. h;
+  number = rw h (verdict-number (stepsTest m r word) ∙ e);
+  place = rw h (verdict-place (stepsTest m r word) ∙ no-place word e);
+  answer = λ z. h ∙ ap verdict (steps-test m r word (test-passed m r word z .1));
+  steps = λ z. h;
 }

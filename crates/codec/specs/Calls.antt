@@ -8,6 +8,7 @@ use lib.Dec.{eqb}
 use Rattle.refusals.specs.declared.Answer.{Answer}
 use Rattle.refusals.specs.Refusals.{numberOf, placeOf, answerNumber, answerPlace, placeNamed, Check, firstRefusal}
 use Rattle.code.specs.Code.{codeword, codewordTest, messageOf}
+use Rattle.code.specs.TestSteps.{stepsTest}
 use Rattle.codec_checks.specs.Checks.{encodeChecks, readChecks, testChecks}
 use Rattle.codec.specs.declared.Tested.{Tested}
 use Rattle.codec.specs.declared.Tested.the-variants.{Codeword, NotCodeword, Refused}
@@ -43,7 +44,9 @@ abbrev pub verdict : Bool → Tested
 verdict true = Codeword
 verdict false = NotCodeword
 
+-- the answer is the definition's, and "the one these steps give"
 pub record Tests (m r : ℕ) (word : List ℕ) (a : Tested) : Type 0 where
   pub number : testedNumber a ≡ firstRefusal (testChecks m r word)
   pub place : testedPlace a ≡ placeNamed word (firstRefusal (testChecks m r word))
   pub answer : firstRefusal (testChecks m r word) ≡ 0 → a ≡ verdict (codewordTest m r word)
+  pub steps : firstRefusal (testChecks m r word) ≡ 0 → a ≡ verdict (stepsTest m r word)

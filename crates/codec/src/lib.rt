@@ -3,10 +3,10 @@ ghost use Rattle.codec.specs.Calls.{Encodes, Reads, Tests};
 use codec_checks::check_codeword;
 use codec_checks::check_message;
 use codec_checks::check_word;
+use halving_test::has_order;
 use messages::degrees;
 use messages::spread;
 use reader::read_in;
-use reader::test_in;
 use refusals::Answer;
 use refusals::Refusal;
 
@@ -49,7 +49,7 @@ pub fn read_message(m: usize, r: usize, word: &[u8], out: &mut [u8]) -> Answer
     }
 }
 
-// Whether a word is a codeword.
+// Whether a word is a codeword, by source 000's steps.
 pub fn is_codeword(m: usize, r: usize, word: &[u8]) -> Tested
     ensures { λ a. ⌜ Tests m r (now (word .entry)) a ⌝ }
 {
@@ -59,7 +59,7 @@ pub fn is_codeword(m: usize, r: usize, word: &[u8]) -> Tested
     }
     let n = words::size(m);
     let mut t = [0u8; 1024];
-    if test_in(m, r, word, &mut t[0..n]) {
+    if has_order(m, r, word, &mut t[0..n]) {
         Tested::Codeword
     } else {
         Tested::NotCodeword

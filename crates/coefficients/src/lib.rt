@@ -9,7 +9,7 @@ ghost use Rattle.code.specs.Code.{coefficient};
 ghost use Rattle.coefficients.specs.TransformLaws.{parities};
 
 // Adds the first half of 2 h bits to the second.
-fn butterfly(s: &mut [u8], h: usize)
+pub fn butterfly(s: &mut [u8], h: usize)
     requires { ⌜ Entries parities (h + h) 1 (now s) ⌝ }
     ensures { λ _. ⌜ now (s .exit) ≡ butterflies parities h (now (s .entry)) ⌝ }
 {

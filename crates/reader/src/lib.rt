@@ -1,4 +1,4 @@
-// The codeword test and the message reader, of words that passed the checks.
+// The message reader, of words that passed the checks.
 ghost use mathlib.Core.Path.{_≡_};
 ghost use mathlib.Core.Bool.{cond};
 ghost use Prim.Native.Nat.{_^_, _≤_};
@@ -11,7 +11,7 @@ use messages::gather;
 use messages::is_low;
 
 // The coefficients of a word in t, and whether those of degree above r are 0.
-pub fn test_in(m: usize, r: usize, word: &[u8], t: &mut [u8]) -> bool
+fn test_in(m: usize, r: usize, word: &[u8], t: &mut [u8]) -> bool
     requires { ⌜ (m ≤ 10) × (r ≤ 10) × IsWord m (now word) × (length (now t) ≡ 2 ^ m) ⌝ }
     ensures { λ b. ⌜ (b ≡ codewordTest m r (now (word .entry))) × (now (t .exit) ≡ tabulate (2 ^ m) (coefficient m (now (word .entry)))) ⌝ }
 {

@@ -71,17 +71,34 @@ fn order_races(r: usize) -> Result<(), String> {
         opponent("plain", k, |word, out| plain::read_message(M, r, word, out)),
         opponent("packed", k, |word, out| opponent::read_message(M, r, word, out)),
     ];
-    race(&format!("read a message (m {M}, r {r})"), readers, &words)?;
-    let tests = vec![
-        library(0, |word, _| calls::is_codeword(M, r, word)),
-        opponent("plain", 0, |word, _| plain::is_codeword(M, r, word)),
-        opponent("packed", 0, |word, _| opponent::is_codeword(M, r, word)),
-    ];
-    race(&format!("test a codeword (m {M}, r {r})"), tests, &words)
+    race(&format!("read a message (m {M}, r {r})"), readers, &words)
+}
+
+/// A word by chance for the codeword test at order r.
+type Word = fn(&mut Random, usize) -> Vec<u8>;
+
+const TESTED: [(&str, Word); 3] = [
+    ("a codeword", |random, r| blocks::codeword(random, M, r)),
+    ("one wrong place", |random, r| blocks::noisy(random, M, r, 1)),
+    ("a word by chance", |random, _| random.bits(1 << M)),
+];
+
+fn test_races(r: usize) -> Result<(), String> {
+    let mut random = Random::new(300 + r as u64);
+    TESTED.into_iter().try_for_each(|(kind, word)| {
+        let words: Vec<Vec<u8>> = (0..16).map(|_| word(&mut random, r)).collect();
+        let tests = vec![
+            library(0, |word, _| calls::is_codeword(M, r, word)),
+            opponent("plain", 0, |word, _| plain::is_codeword(M, r, word)),
+            opponent("packed", 0, |word, _| opponent::is_codeword(M, r, word)),
+        ];
+        race(&format!("test {kind} (m {M}, r {r})"), tests, &words)
+    })
 }
 
 pub fn races() -> Result<(), String> {
-    [2, 5, 8].into_iter().try_for_each(order_races)
+    [2, 5, 8].into_iter().try_for_each(order_races)?;
+    (1..=8).try_for_each(test_races)
 }
 
 /// The number of masks of degree at most r.

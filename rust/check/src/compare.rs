@@ -21,6 +21,7 @@ pub const REFUSALS: usize = 15;
 pub struct Comparison<'a> {
     pub candidate: &'a mut dyn Decoder,
     right: Faulty,
+    by_steps: Faulty,
     /// How often each answer was given in a compared call, acceptance first.
     pub met: [u64; REFUSALS],
     pub pairs: u64,
@@ -28,15 +29,22 @@ pub struct Comparison<'a> {
 
 impl<'a> Comparison<'a> {
     pub fn new(candidate: &'a mut dyn Decoder) -> Comparison<'a> {
-        Comparison { candidate, right: Faulty::new(Fault::None), met: [0; REFUSALS], pairs: 0 }
+        let (right, by_steps) = (Faulty::new(Fault::None), Faulty::by_steps());
+        Comparison { candidate, right, by_steps, met: [0; REFUSALS], pairs: 0 }
     }
 
-    /// Makes the call on both; the right effects if they agree.
+    /// Makes the call on both; the right effects if they agree. The codeword test is held to the steps too.
     pub fn call(&mut self, call: &Call) -> Result<Effects, Disagreement> {
         let found = call.run(self.candidate);
         let right = call.run(&mut self.right);
         if found != right {
             return Err(difference(call, &found, &right));
+        }
+        if matches!(call, Call::IsCodeword { .. }) {
+            let by_steps = call.run(&mut self.by_steps);
+            if found != by_steps {
+                return Err(difference(call, &found, &by_steps));
+            }
         }
         self.met[right.answer.refusal as usize] += 1;
         Ok(right)

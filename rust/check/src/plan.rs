@@ -11,6 +11,7 @@ pub fn directed(c: &mut Comparison) -> Result<(), Disagreement> {
         code_calls::monomials(c, m)?;
     }
     code_calls::every(c, 2)?;
+    code_calls::tests(c, 93, 4, 10)?;
     bad_calls::many(c, 90, 400)?;
     bad_calls::several_bad_bytes(c, 93, 3)?;
     blocks::by_profile(c, 91, 0, 10)?;
@@ -20,10 +21,11 @@ pub fn directed(c: &mut Comparison) -> Result<(), Disagreement> {
 pub type Part = (&'static str, fn(&mut Comparison) -> Result<(), Disagreement>);
 
 /// The whole comparison by parts.
-pub const WHOLE: [Part; 9] = [
+pub const WHOLE: [Part; 10] = [
     ("known values", values::all),
     ("every word to m 4", every_small_word),
     ("encoder, message reader, codeword test", every_code_call),
+    ("codeword test by its steps", every_test),
     ("bad arguments", every_bad_call),
     ("blocks of m 4 to 6", small_blocks),
     ("order 1 of m 5 to 7", order_one_blocks),
@@ -42,6 +44,12 @@ fn every_code_call(c: &mut Comparison) -> Result<(), Disagreement> {
     (1..=6).try_for_each(|m| code_calls::monomials(c, m))?;
     (4..=7).try_for_each(|m| code_calls::sampled(c, 100 + m as u64, m, 40))?;
     (8..=10).try_for_each(|m| code_calls::sampled(c, 100 + m as u64, m, 4))
+}
+
+fn every_test(c: &mut Comparison) -> Result<(), Disagreement> {
+    code_calls::every_test(c, 4)?;
+    (1..=7).try_for_each(|m| code_calls::tests(c, 1_600 + m as u64, m, 200))?;
+    (8..=10).try_for_each(|m| code_calls::tests(c, 1_600 + m as u64, m, 20))
 }
 
 fn every_bad_call(c: &mut Comparison) -> Result<(), Disagreement> {

@@ -67,6 +67,9 @@ noticed! {
     masks_by_degree: MasksByDegree,
     senior_first: SeniorFirst,
     message_untested: MessageUntested,
+    sum_at_order: SumAtOrder,
+    first_half_untested: FirstHalfUntested,
+    order_zero_untested: OrderZeroUntested,
 }
 
 /// This one renumbers cosets in projection and vote alike, which no answer shows; the tests of `second` see it.

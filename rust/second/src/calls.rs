@@ -6,17 +6,25 @@ use crate::code;
 use crate::leaves::{AboveLimit, Leaves};
 use crate::profiles;
 use crate::reading::{Failure, Lists, Reader};
+use crate::steps;
 use crate::Fault;
 
 /// The second encoder and decoder, right or made wrong.
 pub struct Second {
     fault: Fault,
+    /// The codeword test goes by the steps, not by the coefficients.
+    by_steps: bool,
     lists: Lists,
 }
 
 impl Second {
     pub fn new(fault: Fault) -> Second {
-        Second { fault, lists: Lists::default() }
+        Second { fault, by_steps: fault.is_of_the_steps(), lists: Lists::default() }
+    }
+
+    /// The right one, its codeword test by the steps.
+    pub fn by_steps() -> Second {
+        Second { by_steps: true, ..Second::new(Fault::None) }
     }
 
     pub fn encode(&self, m: usize, r: usize, message: &[u8], out: &mut [u8]) -> Answer {
@@ -46,7 +54,8 @@ impl Second {
         if let Err(answer) = checked.and_then(|()| check_bytes(word, self.fault)) {
             return answer;
         }
-        Answer { rounds: code::is_codeword(r, word) as usize, ..Answer::default() }
+        let passes = if self.by_steps { steps::passes(m, r, word, self.fault) } else { code::is_codeword(r, word) };
+        Answer { rounds: passes as usize, ..Answer::default() }
     }
 
     #[allow(clippy::too_many_arguments)]

@@ -75,10 +75,16 @@ pub enum Fault {
     SeniorFirst,
     /// The message reader does not test the word.
     MessageUntested,
+    /// The codeword test's steps test the sum of the halves at order r.
+    SumAtOrder,
+    /// They do not test the first half.
+    FirstHalfUntested,
+    /// They pass every word at r = 0.
+    OrderZeroUntested,
 }
 
 impl Fault {
-    pub const ALL: [Fault; 37] = [
+    pub const ALL: [Fault; 40] = [
         Fault::LowerMask,
         Fault::FlipsDuringRound,
         Fault::AbstainerVotesZeros,
@@ -116,5 +122,13 @@ impl Fault {
         Fault::MasksByDegree,
         Fault::SeniorFirst,
         Fault::MessageUntested,
+        Fault::SumAtOrder,
+        Fault::FirstHalfUntested,
+        Fault::OrderZeroUntested,
     ];
+
+    /// Whether the fault is one of the codeword test's steps.
+    pub fn is_of_the_steps(self) -> bool {
+        matches!(self, Fault::SumAtOrder | Fault::FirstHalfUntested | Fault::OrderZeroUntested)
+    }
 }

@@ -1,5 +1,6 @@
 //! A second encoder, message reader, codeword test and decoder, written from the papers alone and for
-//! plainness, not speed: everything is found by search and by trying all codewords.
+//! plainness, not speed: everything is found by search and by trying all codewords. The codeword test stands twice, by the
+//! coefficients and by the steps of document 02.
 //! It can be made wrong in named ways (`Fault`), to show that a comparison with it notices them.
 
 mod answer;
@@ -11,6 +12,7 @@ mod fault;
 mod leaves;
 pub mod profiles;
 mod reading;
+pub mod steps;
 
 pub use answer::Answer;
 pub use calls::Second;

@@ -2,7 +2,6 @@
 use Prim.Native.Nat.{ℕ, _≤_}
 use mathlib.Core.Path.{_≡_, sym, ap, _∙_}
 use borrow.Author.Needs.{needs}
-use native.Mathlib.Omega.{arith}
 use lib.ListN.{replicate}
 use lib.Pow.{pow-mono}
 use Rattle.refusals.specs.Refusals.{answerNumber, firstRefusal}
@@ -45,8 +44,8 @@ enum-told c = search needs
 size-requires : tie.Need-size-requires
 size-requires c κs = passed-of c .0 .most
 
-sub-test-in : tie.Need-sub-test-in
-sub-test-in c = search needs
+sub-has-order : tie.Need-sub-has-order
+sub-has-order c = search needs
 
 part-t-start : tie.Need-part-t-start
 part-t-start c = search needs
@@ -54,20 +53,20 @@ part-t-start c = search needs
 part-t-end : tie.Need-part-t-end
 part-t-end c = fits c
 
-test-in-requires : tie.Need-test-in-requires
-test-in-requires c κs =
+has-order-requires : tie.Need-has-order-requires
+has-order-requires c κs =
     let k = c .before in
-    (passed-of (k .before) .0 .most, omega (arith, passed-of (k .before) .0 .order, passed-of (k .before) .0 .most), passed-of (k .before) .1, front-length {A = ℕ} _ (replicate 1024 0) (fits k) ∙ k .size .ensures)
+    (passed-of (k .before) .0 .most, passed-of (k .before) .0 .order, passed-of (k .before) .1, front-length {A = ℕ} _ (replicate 1024 0) (fits k) ∙ k .size .ensures)
 
 returns-2 : tie.Need-returns-2
 returns-2 c =
     let k = c .before .before .before .before .before in
-    test-done (none-of k) (ap verdict (sym (c .if1 .taken) ∙ c .before .before .test-in .ensures .0))
+    test-done (none-of k) (ap verdict (sym (c .if1 .taken) ∙ c .before .before .has-order .ensures))
 
 returns-3 : tie.Need-returns-3
 returns-3 c =
     let k = c .before .before .before .before .before in
-    test-done (none-of k) (ap verdict (sym (c .if1 .left) ∙ c .before .before .test-in .ensures .0))
+    test-done (none-of k) (ap verdict (sym (c .if1 .left) ∙ c .before .before .has-order .ensures))
 
 pub is-codeword-spec : {M : Type 1} → statement M
 is-codeword-spec =
@@ -78,9 +77,9 @@ is-codeword-spec =
     returns
     enum-told
     size-requires
-    sub-test-in
+    sub-has-order
     part-t-start
     part-t-end
-    test-in-requires
+    has-order-requires
     returns-2
     returns-3)

@@ -9,6 +9,11 @@ impl Faulty {
     pub fn new(fault: Fault) -> Faulty {
         Faulty(Second::new(fault))
     }
+
+    /// The right one, its codeword test by the steps of document 02, request 8.
+    pub fn by_steps() -> Faulty {
+        Faulty(Second::by_steps())
+    }
 }
 
 fn answer(from: second::Answer) -> Answer {

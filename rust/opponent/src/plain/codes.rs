@@ -1,4 +1,4 @@
-//! Encoder, message reader and codeword test with one byte for each place, and the transform level by level.
+//! Encoder, message reader and codeword test with one byte for each place: the transform level by level, the test by halves.
 
 use crate::call::{check_code, check_lengths, check_word, Answer};
 
@@ -57,7 +57,25 @@ pub fn is_codeword(m: usize, r: usize, word: &[u8]) -> Answer {
     if let Some(place) = bad_byte(word) {
         return Answer::bad_byte(place);
     }
-    Answer { rounds: has_order(r, coefficients(word, &mut [0; 1024])) as usize, ..Answer::default() }
+    let mut room = [0; 1024];
+    let copy = &mut room[..word.len()];
+    copy.copy_from_slice(word);
+    Answer { rounds: passes(m, r, copy) as usize, ..Answer::default() }
+}
+
+/// The sum of the halves at order r - 1, then the first half at order r. The sum takes the place of the second half.
+fn passes(m: usize, r: usize, word: &mut [u8]) -> bool {
+    if r == 0 {
+        return word.iter().fold(0, |different, bit| different | (bit ^ word[0])) == 0;
+    }
+    if r == m {
+        return true;
+    }
+    let (first, second) = word.split_at_mut(word.len() / 2);
+    for (s, f) in second.iter_mut().zip(&*first) {
+        *s ^= *f;
+    }
+    passes(m - 1, r - 1, second) && passes(m - 1, r, first)
 }
 
 fn degree(mask: usize) -> usize {

@@ -1,0 +1,2 @@
+-- InPlace has laws.
+pub mod InPlace
