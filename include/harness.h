@@ -14,6 +14,7 @@
  *   rm_is_codeword       n, word
  *   rm_decode            n, word      n        8 n or more
  *   rm_decode_profile    n, word      n        8 n or more
+ *   rm_gap               n, word               8 n or more
  *
  *   profile     0     1     2     3     4
  *   m, r      5,1   6,2   7,2   8,2   8,3
@@ -76,7 +77,7 @@ static inline unsigned rm_rounds(uint64_t answer) {
     return (unsigned)(answer >> 8 & 255);
 }
 
-/* The readings at order 1, of all rounds and every depth. */
+/* The readings at order 1, of all rounds and every depth; of rm_gap the gap. */
 static inline uint32_t rm_leaves(uint64_t answer) {
     return (uint32_t)(answer >> 16 & 16777215);
 }
@@ -102,6 +103,10 @@ uint64_t rm_decode(size_t m, size_t r, size_t rounds, size_t leaves, const uint8
 
 uint64_t rm_decode_profile(size_t profile, const uint8_t *word, size_t word_len,
                            uint8_t *out, size_t out_len, int32_t *area, size_t area_len);
+
+/* The gap between the greatest and the second absolute correlation of a word at order 1, where the leaf count stands: 0 on a tie, n of a
+ * codeword. If 4 x the number of changed places is less than the gap, the changed block gets the same codeword. Refused 1, 5, 7 or 8. */
+uint64_t rm_gap(size_t m, const uint8_t *word, size_t word_len, int32_t *area, size_t area_len);
 
 #ifdef __cplusplus
 }

@@ -1,4 +1,4 @@
-/* Document 01's meter bench values, called from C: ends with 0 only where every one of them holds. It is C++ as well.
+/* Document 01's meter bench values and some gaps, called from C: ends with 0 only where every one of them holds. It is C++ as well.
  *
  *   rt staticlib harness && cc -Iinclude samples/bench_values.c target/staticlib/libharness.a -o target/bench_values && target/bench_values
  */
@@ -127,6 +127,26 @@ static void example(void) {
     expect(rm_decode_profile(5, word, n, out, n, area, 8 * n) == RM_PROFILE, "profile 5", "the refusal");
 }
 
+static void gap_is(const char *name, size_t m, const char *block, uint32_t gap) {
+    uint8_t word[RM_MOST_PLACES];
+    size_t n = bits(block, word);
+    uint64_t answer;
+    filled();
+    answer = rm_gap(m, word, n, area, 8 * n + 3);
+    expect(rm_refusal(answer) == 0 && rm_leaves(answer) == gap, name, "the gap");
+    expect(area_is(0, 8 * n + 3), name, "the area");
+    filled();
+    answer = rm_gap(m, word, n, area, 8 * n - 1);
+    expect(answer == RM_AREA_LENGTH && area_is(5, 8 * n), name, "a short area");
+}
+
+/* Document 02, request 13. */
+static void gaps(void) {
+    gap_is("the gap of a codeword", 2, "1001", 4);
+    gap_is("the gap of a tie", 2, "1000", 0);
+    gap_is("the gap with one wrong place", 4, "1000000000000000", 12);
+}
+
 /* Each number of an answer by itself, and the place of a bad byte. */
 static void numbers(void) {
     uint64_t answer = (uint64_t)12 | (uint64_t)5 << 8 | (uint64_t)1000000 << 16 | (uint64_t)1024 << 40 | (uint64_t)1023 << 52;
@@ -143,6 +163,7 @@ int main(void) {
     orders_0_and_1();
     order_2();
     example();
+    gaps();
     numbers();
     if (failures == 0) puts("the bench values hold");
     return failures != 0;

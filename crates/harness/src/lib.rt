@@ -5,7 +5,7 @@ ghost use Rattle.code.specs.Code.{codeword, codewordTest, messageOf};
 ghost use Rattle.codec_checks.specs.Checks.{encodeChecks, readChecks, testChecks};
 ghost use Rattle.profiles.specs.Profiles.{profileOf};
 ghost use Rattle.rule.specs.Decoding.{decodeCall, decodeProfileCall};
-ghost use Rattle.packing.specs.Packing.{Returns, ReturnsDecoded, packTest};
+ghost use Rattle.packing.specs.Packing.{Returns, ReturnsDecoded, ReturnsGap, packTest};
 
 #[no_mangle]
 pub extern "C" fn rm_encode(m: usize, r: usize, message: &[u8], out: &mut [u8]) -> u64
@@ -59,4 +59,13 @@ pub extern "C" fn rm_decode_profile(
 {
     let answer = decoder::decode_profile(profile, word, out, area);
     packing::pack_decoded(answer)
+}
+
+// The gap stands in the place of the leaf count.
+#[no_mangle]
+pub extern "C" fn rm_gap(m: usize, word: &[u8], area: &mut [i32]) -> u64
+    ensures { λ x. ⌜ ReturnsGap m (now (word .entry)) (now (area .entry)) (now (area .exit)) x ⌝ }
+{
+    let answer = gap::gap(m, word, area);
+    packing::pack_measured(answer)
 }

@@ -5,8 +5,10 @@ use mathlib.Core.Bool.{Bool, cond}
 use mathlib.Core.List.{List}
 use lib.Dec.{eqb}
 use lib.IntN.{ℤ}
+use lib.ListN.{length}
 use Rattle.words.specs.Word.{indicator}
 use Rattle.refusals.specs.Refusals.{Check, firstRefusal, placeNamed}
+use Rattle.gap.specs.Calls.{GapValues, gapValues, gapCall, gapArea}
 use Rattle.codec.specs.declared.Tested.{Tested}
 use Rattle.codec.specs.declared.Tested.the-variants.{Codeword, NotCodeword, Refused}
 use Rattle.codec.specs.Calls as codec
@@ -28,6 +30,10 @@ yesOf (Refused why) = 0
 abbrev pub packValues : Values → ℕ → ℕ
 packValues (values e k l c) place = pack e k l c place
 
+-- what a call of the gap returns: the gap in the place of the leaf count
+abbrev pub packGap : GapValues → ℕ
+packGap (gapValues e g place) = pack e 0 g 0 place
+
 -- ---- what the exported calls return
 
 -- a call of the encoder or the message reader: its checks cs, its result x on the input s, the output before and after, what it returns
@@ -44,3 +50,8 @@ pub record ReturnsDecoded (m : ℕ) (o : Outcome) (word out out′ : List ℕ) (
   pub packed : returned ≡ packValues (answerOf m word o) (placeNamed word (refusalOf o))
   pub output : out′ ≡ outputOf o out
   pub lent : area′ ≡ areaOf o area
+
+-- a call of the gap
+pub record ReturnsGap (m : ℕ) (word : List ℕ) (area area′ : List ℤ) (returned : ℕ) : Type 0 where
+  pub packed : returned ≡ packGap (gapCall m word (length area))
+  pub lent : area′ ≡ gapArea m word area

@@ -19,7 +19,9 @@ use Rattle.codec.specs.declared.Tested.the-variants.{Codeword, NotCodeword, Ref
 use Rattle.codec.specs.Calls.{Calls, Tests, testedNumber, testedPlace, verdict}
 use Rattle.rule.specs.Reading.{Outcome}
 use Rattle.rule.specs.Calls.{Decodes, decodedPlace, valuesOf}
-use Rattle.packing.specs.Packing.{pack, packTest, packValues, yesOf, Returns, ReturnsDecoded}
+use Rattle.gap.specs.declared.Measured.{Measured}
+use Rattle.gap.specs.Calls.{Measures, measuredValues}
+use Rattle.packing.specs.Packing.{pack, packGap, packTest, packValues, yesOf, Returns, ReturnsDecoded, ReturnsGap}
 
 pub call-returns : {cs : List Check} {x s before after : List ℕ} {a : Answer} {v : ℕ}
     → Calls cs x s before after a → v ≡ pack (answerNumber a) 0 0 0 (answerPlace a) → Returns cs x s before after v
@@ -28,6 +30,10 @@ call-returns c e = record { packed = e ∙ ap₂ (λ (n p : ℕ). pack n 0 0 0 p
 pub decoding-returns : {m : ℕ} {o : Outcome} {word out out′ : List ℕ} {area area′ : List ℤ} {d : Decoded} {v : ℕ}
     → Decodes m o word out out′ area area′ d → v ≡ packValues (valuesOf d) (decodedPlace d) → ReturnsDecoded m o word out out′ area area′ v
 decoding-returns c e = record { packed = e ∙ ap₂ packValues (c .answer) (c .place); output = c .output; lent = c .lent }
+
+pub gap-returns : {m : ℕ} {word : List ℕ} {area area′ : List ℤ} {a : Measured} {v : ℕ}
+    → Measures m word area area′ a → v ≡ packGap (measuredValues a) → ReturnsGap m word area area′ v
+gap-returns c e = record { packed = e ∙ ap packGap (c .answer); lent = c .lent }
 
 verdict-yes : (b : Bool) → yesOf (verdict b) ≡ indicator b
 verdict-yes true = refl

@@ -3,9 +3,11 @@ ghost use mathlib.Core.Path.{_≡_};
 ghost use Rattle.refusals.specs.Refusals.{answerNumber, answerPlace};
 ghost use Rattle.codec.specs.Calls.{testedNumber, testedPlace};
 ghost use Rattle.rule.specs.Calls.{valuesOf, decodedPlace};
+ghost use Rattle.gap.specs.Calls.{measuredValues};
 ghost use Rattle.packing.specs.Packing;
-ghost use Rattle.packing.specs.Packing.{yesOf, packValues};
+ghost use Rattle.packing.specs.Packing.{yesOf, packGap, packValues};
 use codec::Tested;
+use gap::Measured;
 use refusals::Answer;
 use refusals::Decoded;
 
@@ -49,5 +51,14 @@ pub fn pack_decoded(answer: Decoded) -> u64
             0,
             refusals::place(why),
         ),
+    }
+}
+
+pub fn pack_measured(answer: Measured) -> u64
+    ensures { λ x. ⌜ x ≡ packGap (measuredValues answer) ⌝ }
+{
+    match answer {
+        Measured::Gap(gap) => pack(0, 0, gap, 0, 0),
+        Measured::Refused(why) => pack(refusals::number(why), 0, 0, 0, refusals::place(why)),
     }
 }

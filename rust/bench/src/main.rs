@@ -1,8 +1,9 @@
 //! Races of the library against the decoders written for speed, all in one run. The first argument says which:
-//! decode, codes, listing or all; or instructions, which counts them and takes no time.
+//! decode, codes, gap, listing or all; or instructions, which counts them and takes no time.
 
 mod codes;
 mod decoding;
+mod gaps;
 mod instructions;
 mod listings;
 mod race;
@@ -14,11 +15,15 @@ fn main() -> ExitCode {
     let raced = match which.as_str() {
         "decode" => decoding::races(),
         "codes" => codes::races(),
+        "gap" => gaps::races(),
         "listing" => listings::races(),
-        "all" => decoding::races().and_then(|()| codes::races()).and_then(|()| listings::races()),
+        "all" => decoding::races()
+            .and_then(|()| codes::races())
+            .and_then(|()| gaps::races())
+            .and_then(|()| listings::races()),
         "instructions" => instructions::counts(),
         instructions::PASSES => instructions::passes(std::env::args().skip(2)),
-        _ => Err(format!("no races are named {which}: decode, codes, listing, all or instructions")),
+        _ => Err(format!("no races are named {which}: decode, codes, gap, listing, all or instructions")),
     };
     match raced {
         Ok(()) => ExitCode::SUCCESS,

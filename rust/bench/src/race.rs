@@ -62,11 +62,16 @@ pub fn race(name: &str, mut runners: Vec<Box<dyn Runner + '_>>, blocks: &[Vec<u8
     if !equal(&mut runners, blocks) {
         return Err(format!("{name}: the answers differ"));
     }
+    side_by_side(name, runners, blocks);
+    Ok(())
+}
+
+/// The same for calls that answer different questions.
+pub fn side_by_side(name: &str, mut runners: Vec<Box<dyn Runner + '_>>, blocks: &[Vec<u8>]) {
     let times = least_times(&mut runners, blocks);
     print!("{name:40} {} {:9.3} us", runners[0].name(), times[0]);
     for (runner, time) in runners.iter().zip(&times).skip(1) {
         print!("   {} {time:9.3} us, ratio {:7.2}", runner.name(), times[0] / time);
     }
     println!();
-    Ok(())
 }

@@ -30,6 +30,7 @@ extern "C" {
         area: *mut i32,
         area_len: usize,
     ) -> u64;
+    fn rm_gap(m: usize, word: *const u8, word_len: usize, area: *mut i32, area_len: usize) -> u64;
 }
 
 #[inline]
@@ -75,4 +76,11 @@ pub fn decode_profile(profile: usize, word: &[u8], out: &mut [u8], area: &mut [i
     let (area, area_len) = (area.as_mut_ptr(), area.len());
     // SAFETY: as for `encode`.
     Answer::unpacked(unsafe { rm_decode_profile(profile, word, word_len, out, out_len, area, area_len) })
+}
+
+/// The gap stands in the leaf count.
+#[inline]
+pub fn gap(m: usize, word: &[u8], area: &mut [i32]) -> Answer {
+    // SAFETY: as for `encode`.
+    Answer::unpacked(unsafe { rm_gap(m, word.as_ptr(), word.len(), area.as_mut_ptr(), area.len()) })
 }

@@ -7,9 +7,9 @@ use second::message_bits;
 use second::profiles;
 
 /// Arguments by chance; each is bad one time in `rarity`.
-struct Chooser {
-    random: Random,
-    rarity: usize,
+pub struct Chooser {
+    pub random: Random,
+    pub rarity: usize,
 }
 
 impl Chooser {
@@ -89,6 +89,12 @@ impl Chooser {
         Call::Decode { m, r, rounds, leaves, word: self.bytes_of(n), out: self.length(n), area: self.area(n) }
     }
 
+    pub fn gap_call(&mut self) -> Call {
+        let m = self.exponent();
+        let n = 1 << m.clamp(1, 5);
+        Call::Gap { m, word: self.bytes_of(n), area: self.area(n) }
+    }
+
     fn profile_call(&mut self) -> Call {
         let good = self.random.below(5);
         let profile = self.number(good, &[5, 6, 8, 255, 256, 260, 1 << 32, usize::MAX]);
@@ -119,9 +125,10 @@ pub fn many(c: &mut Comparison, seed: u64, calls: usize) -> Result<(), Disagreem
     Ok(())
 }
 
-/// The five calls on a word with bad bytes; at order m a message is as long as a word.
+/// The calls on a word with bad bytes; at order m a message is as long as a word.
 fn every_call(c: &mut Comparison, m: usize, word: &[u8]) -> Result<(), Disagreement> {
     c.call(&Call::decode(m, m.min(2), 1, 1, word))?;
+    c.call(&Call::gap(m, word))?;
     c.call(&Call::IsCodeword { m, r: 1, word: word.to_vec() })?;
     c.call(&Call::ReadMessage { m, r: m, word: word.to_vec(), out: word.len() })?;
     c.call(&Call::Encode { m, r: m, message: word.to_vec(), out: word.len() })?;
@@ -184,6 +191,7 @@ pub fn each_length(c: &mut Comparison, m: usize, r: usize) -> Result<(), Disagre
         c.call(&Call::IsCodeword { m, r, word: word.clone() })?;
         c.call(&Call::ReadMessage { m, r, word: word.clone(), out: k + more_out - 1 })?;
         c.call(&Call::Encode { m, r, message, out: n + more_out - 1 })?;
+        c.call(&Call::Gap { m, word: word.clone(), area })?;
         c.call(&Call::Decode { m, r, rounds: 1, leaves: 1, word, out: n + more_out - 1, area })?;
     }
     Ok(())

@@ -12,6 +12,7 @@ pub enum Call {
     IsCodeword { m: usize, r: usize, word: Vec<u8> },
     Decode { m: usize, r: usize, rounds: usize, leaves: usize, word: Vec<u8>, out: usize, area: usize },
     DecodeProfile { profile: usize, word: Vec<u8>, out: usize, area: usize },
+    Gap { m: usize, word: Vec<u8>, area: usize },
 }
 
 /// Answer, output and area after a call; a buffer is missing if something was written around it.
@@ -33,11 +34,15 @@ impl Call {
         Call::DecodeProfile { profile, word: word.to_vec(), out: word.len(), area: 8 * word.len() }
     }
 
+    pub fn gap(m: usize, word: &[u8]) -> Call {
+        Call::Gap { m, word: word.to_vec(), area: 8 << m }
+    }
+
     pub fn input(&self) -> &[u8] {
         match self {
             Call::Encode { message, .. } => message,
             Call::ReadMessage { word, .. } | Call::IsCodeword { word, .. } => word,
-            Call::Decode { word, .. } | Call::DecodeProfile { word, .. } => word,
+            Call::Decode { word, .. } | Call::DecodeProfile { word, .. } | Call::Gap { word, .. } => word,
         }
     }
 
@@ -47,11 +52,12 @@ impl Call {
             Call::Encode { out, .. } | Call::ReadMessage { out, .. } => (*out, 0),
             Call::IsCodeword { .. } => (0, 0),
             Call::Decode { out, area, .. } | Call::DecodeProfile { out, area, .. } => (*out, *area),
+            Call::Gap { area, .. } => (0, *area),
         }
     }
 
     pub fn with_area(mut self, length: usize) -> Call {
-        if let Call::Decode { area, .. } | Call::DecodeProfile { area, .. } = &mut self {
+        if let Call::Decode { area, .. } | Call::DecodeProfile { area, .. } | Call::Gap { area, .. } = &mut self {
             *area = length;
         }
         self
@@ -74,6 +80,7 @@ impl Call {
             Call::IsCodeword { m, r, .. } => decoder.is_codeword(*m, *r, input),
             Call::Decode { m, r, rounds, leaves, .. } => decoder.decode(*m, *r, *rounds, *leaves, input, out, area),
             Call::DecodeProfile { profile, .. } => decoder.decode_profile(*profile, input, out, area),
+            Call::Gap { m, .. } => decoder.gap(*m, input, area),
         }
     }
 }
@@ -94,6 +101,7 @@ impl fmt::Display for Call {
                 write!(f, "decode m {m} r {r} rounds {rounds} leaves {leaves}")?
             }
             Call::DecodeProfile { profile, .. } => write!(f, "decode_profile {profile}")?,
+            Call::Gap { m, .. } => write!(f, "gap m {m}")?,
         }
         let (out, area) = self.lengths();
         let input = self.input();

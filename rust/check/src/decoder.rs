@@ -37,4 +37,7 @@ pub trait Decoder {
     ) -> Answer;
 
     fn decode_profile(&mut self, profile: usize, word: &[u8], out: &mut [u8], area: &mut [i32]) -> Answer;
+
+    /// The gap stands in the leaf count.
+    fn gap(&mut self, m: usize, word: &[u8], area: &mut [i32]) -> Answer;
 }

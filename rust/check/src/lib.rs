@@ -8,6 +8,7 @@ pub mod code_calls;
 pub mod compare;
 pub mod decoder;
 pub mod decoders;
+pub mod gaps;
 mod lent;
 pub mod plan;
 pub mod random;

@@ -1,7 +1,7 @@
 //! What the comparison goes through.
 
 use crate::compare::{Comparison, Disagreement};
-use crate::{alike, bad_calls, blocks, code_calls, small, values};
+use crate::{alike, bad_calls, blocks, code_calls, gaps, small, values};
 
 /// Few calls that still show every fault.
 pub fn directed(c: &mut Comparison) -> Result<(), Disagreement> {
@@ -14,6 +14,9 @@ pub fn directed(c: &mut Comparison) -> Result<(), Disagreement> {
     code_calls::tests(c, 93, 4, 10)?;
     bad_calls::many(c, 90, 400)?;
     bad_calls::several_bad_bytes(c, 93, 3)?;
+    gaps::every(c, 2)?;
+    gaps::bad(c, 94, 400)?;
+    gaps::sampled(c, 95, 4, 10)?;
     blocks::by_profile(c, 91, 0, 10)?;
     blocks::by_profile(c, 92, 1, 10)
 }
@@ -21,7 +24,7 @@ pub fn directed(c: &mut Comparison) -> Result<(), Disagreement> {
 pub type Part = (&'static str, fn(&mut Comparison) -> Result<(), Disagreement>);
 
 /// The whole comparison by parts.
-pub const WHOLE: [Part; 10] = [
+pub const WHOLE: [Part; 11] = [
     ("known values", values::all),
     ("every word to m 4", every_small_word),
     ("encoder, message reader, codeword test", every_code_call),
@@ -32,6 +35,7 @@ pub const WHOLE: [Part; 10] = [
     ("blocks of m 7 to 10", large_blocks),
     ("profiles", profile_blocks),
     ("pairs that differ by a codeword", every_pair),
+    ("the gap", every_gap),
 ];
 
 fn every_small_word(c: &mut Comparison) -> Result<(), Disagreement> {
@@ -117,4 +121,12 @@ fn every_pair(c: &mut Comparison) -> Result<(), Disagreement> {
         alike::by_profile(c, 1_500 + number as u64, number, pairs)?;
     }
     Ok(())
+}
+
+fn every_gap(c: &mut Comparison) -> Result<(), Disagreement> {
+    (1..=3).try_for_each(|m| gaps::every(c, m))?;
+    (1..=7).try_for_each(|m| gaps::sampled(c, 1_700 + m as u64, m, 200))?;
+    (8..=10).try_for_each(|m| gaps::sampled(c, 1_700 + m as u64, m, 12))?;
+    (1..=10).try_for_each(|m| gaps::changed(c, 1_800 + m as u64, m, 200))?;
+    gaps::bad(c, 1_900, 4_000)
 }

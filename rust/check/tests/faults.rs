@@ -70,6 +70,9 @@ noticed! {
     sum_at_order: SumAtOrder,
     first_half_untested: FirstHalfUntested,
     order_zero_untested: OrderZeroUntested,
+    second_is_smaller: SecondIsSmaller,
+    signed_correlations: SignedCorrelations,
+    gap_area_not_cleared: GapAreaNotCleared,
 }
 
 /// This one renumbers cosets in projection and vote alike, which no answer shows; the tests of `second` see it.

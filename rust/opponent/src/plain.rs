@@ -2,6 +2,7 @@
 
 mod codes;
 mod cosets;
+mod gap;
 mod leaf;
 mod reading;
 
@@ -9,6 +10,7 @@ use crate::call::{check_decoding, differing, Answer};
 use crate::profiles::profile;
 use codes::bad_byte;
 pub use codes::{encode, is_codeword, read_message};
+pub use gap::gap;
 use reading::Reader;
 pub use reading::Workspace;
 

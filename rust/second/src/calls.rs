@@ -1,8 +1,11 @@
 //! The public calls: checks in document 01's order, answers, and what is written where.
 
 use crate::answer::{Answer, Limits};
-use crate::checks::{check_area, check_bytes, check_code, check_length, check_limits, check_slices, message_bits};
+use crate::checks::{
+    check_area, check_bytes, check_code, check_exponent, check_length, check_limits, check_slices, message_bits,
+};
 use crate::code;
+use crate::gap;
 use crate::leaves::{AboveLimit, Leaves};
 use crate::profiles;
 use crate::reading::{Failure, Lists, Reader};
@@ -56,6 +59,19 @@ impl Second {
         }
         let passes = if self.by_steps { steps::passes(m, r, word, self.fault) } else { code::is_codeword(r, word) };
         Answer { rounds: passes as usize, ..Answer::default() }
+    }
+
+    /// The gap of a word at order 1, in the place of the leaf count.
+    pub fn gap(&self, m: usize, word: &[u8], area: &mut [i32]) -> Answer {
+        let checked = check_exponent(m).and_then(|()| check_length(word, 1 << m, 5));
+        let checked = checked.and_then(|()| check_area(area, 1 << m));
+        if let Err(answer) = checked.and_then(|()| check_bytes(word, self.fault)) {
+            return answer;
+        }
+        if self.fault != Fault::GapAreaNotCleared {
+            area.fill(0);
+        }
+        Answer { leaves: gap::gap(word, self.fault), ..Answer::default() }
     }
 
     #[allow(clippy::too_many_arguments)]

@@ -15,8 +15,12 @@ fn check(fails: bool, refusal: u8) -> Result<(), Answer> {
     Ok(())
 }
 
+pub fn check_exponent(m: usize) -> Result<(), Answer> {
+    check(!(1..=10).contains(&m), 1)
+}
+
 pub fn check_code(m: usize, r: usize) -> Result<(), Answer> {
-    check(!(1..=10).contains(&m), 1)?;
+    check_exponent(m)?;
     check(r > m, 2)
 }
 

@@ -81,10 +81,16 @@ pub enum Fault {
     FirstHalfUntested,
     /// They pass every word at r = 0.
     OrderZeroUntested,
+    /// The second correlation of a gap is the greatest of those smaller than the greatest, so that a tie has a gap.
+    SecondIsSmaller,
+    /// The gap is between signed correlations.
+    SignedCorrelations,
+    /// The area keeps what was in it after a gap.
+    GapAreaNotCleared,
 }
 
 impl Fault {
-    pub const ALL: [Fault; 40] = [
+    pub const ALL: [Fault; 43] = [
         Fault::LowerMask,
         Fault::FlipsDuringRound,
         Fault::AbstainerVotesZeros,
@@ -125,6 +131,9 @@ impl Fault {
         Fault::SumAtOrder,
         Fault::FirstHalfUntested,
         Fault::OrderZeroUntested,
+        Fault::SecondIsSmaller,
+        Fault::SignedCorrelations,
+        Fault::GapAreaNotCleared,
     ];
 
     /// Whether the fault is one of the codeword test's steps.

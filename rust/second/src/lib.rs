@@ -1,4 +1,4 @@
-//! A second encoder, message reader, codeword test and decoder, written from the papers alone and for
+//! A second encoder, message reader, codeword test, decoder and gap, written from the papers alone and for
 //! plainness, not speed: everything is found by search and by trying all codewords. The codeword test stands twice, by the
 //! coefficients and by the steps of document 02.
 //! It can be made wrong in named ways (`Fault`), to show that a comparison with it notices them.
@@ -9,6 +9,7 @@ mod checks;
 pub mod code;
 pub mod direction;
 mod fault;
+pub mod gap;
 mod leaves;
 pub mod profiles;
 mod reading;

@@ -50,4 +50,8 @@ impl Decoder for Faulty {
     fn decode_profile(&mut self, profile: usize, word: &[u8], out: &mut [u8], area: &mut [i32]) -> Answer {
         answer(self.0.decode_profile(profile, word, out, area))
     }
+
+    fn gap(&mut self, m: usize, word: &[u8], area: &mut [i32]) -> Answer {
+        answer(self.0.gap(m, word, area))
+    }
 }

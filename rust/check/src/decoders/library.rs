@@ -38,4 +38,8 @@ impl Decoder for Library {
     fn decode_profile(&mut self, profile: usize, word: &[u8], out: &mut [u8], area: &mut [i32]) -> Answer {
         answer(calls::decode_profile(profile, word, out, area))
     }
+
+    fn gap(&mut self, m: usize, word: &[u8], area: &mut [i32]) -> Answer {
+        answer(calls::gap(m, word, area))
+    }
 }

@@ -74,4 +74,19 @@ impl Decoder for Opponent {
             Some(p) => self.decode(p.m, p.r, p.rounds, p.leaves, word, out, area),
         }
     }
+
+    /// Both take the same: the gap is of sizes, which are not packed.
+    fn gap(&mut self, m: usize, word: &[u8], area: &mut [i32]) -> Answer {
+        let answer = answer(plain::gap(m, word));
+        if matches!(answer.refusal, 1 | 5) {
+            return answer;
+        }
+        if area.len() < 8 << m {
+            return Answer::numbers(7, 0, 0);
+        }
+        if answer.refusal == 0 {
+            area.fill(0);
+        }
+        answer
+    }
 }

@@ -39,7 +39,7 @@ fn nearest_of<const N: usize>(word: &mut [u8]) -> bool {
 }
 
 #[inline(always)]
-fn hadamard<const N: usize>(values: &mut [i16; N]) {
+pub fn hadamard<const N: usize>(values: &mut [i16; N]) {
     let mut half = 1;
     while half < N {
         for pair in values.chunks_exact_mut(2 * half) {
@@ -69,7 +69,7 @@ fn codeword<const N: usize>(mask: usize, turned: u8, word: &mut [u8; N]) {
 
 /// Whether the word is a codeword of order 1: each half repeats the lower one, or turns it.
 #[inline(always)]
-fn is_affine<const N: usize>(word: &[u8; N]) -> bool {
+pub fn is_affine<const N: usize>(word: &[u8; N]) -> bool {
     let mut half = 1;
     while half < N {
         let turn = word[0] ^ word[half];

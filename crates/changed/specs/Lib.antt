@@ -1,0 +1,2 @@
+-- Definitions: Changed.
+pub mod Changed
