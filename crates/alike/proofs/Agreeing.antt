@@ -1,21 +1,19 @@
 -- Two calls in buffers of the right sizes, on words that differ by a codeword. Assumes nothing.
 use Prim.Native.Nat.{ℕ}
-use mathlib.Core.Path.{_≡_, sym, ap, _∙_}
+use mathlib.Core.Path.{sym, ap, _∙_}
 use mathlib.Core.List.{List}
 use lib.ListN.{length}
 use lib.IntN.{ℤ}
-use Rattle.words.specs.Word.{IsWord, addWords}
+use Rattle.words.specs.Word.{addWords}
 use Rattle.refusals.specs.declared.Decoded.{Decoded}
 use Rattle.profiles.specs.Profiles.{profileOf}
 use Rattle.rule.specs.Reading.{Outcome}
 use Rattle.rule.specs.Decoding.{numberIn, decodeCall, decodeProfileCall}
-use Rattle.rule.specs.DecodingLaws.{RightSizes, number-is}
-use Rattle.rule.specs.Calls.{Decodes, valuesOf}
+use Rattle.rule.specs.DecodingLaws.{number-is}
+use Rattle.rule.specs.Calls.{Decodes}
 use Rattle.rule.specs.Demand3.{Agree, demand-3-call, demand-3-profile-call}
 use Rattle.alike.specs.Alike.{Differ, Fit, Alike}
-
-sizes : {m : ℕ} {w out : List ℕ} {area : List ℤ} → IsWord m w → Fit m out area → RightSizes m w (length out) (length area)
-sizes word fit = record { input = word; output = fit .output; lent = fit .lent }
+use Rattle.alike.specs.AlikeLaws.{sizes}
 
 module _ {w w′ out out′ v v′ : List ℕ} {area area′ xs xs′ : List ℤ} {a a′ : Decoded} where
   -- by their outcomes x and y

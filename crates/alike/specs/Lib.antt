@@ -1,2 +1,3 @@
--- Definitions: Alike.
+-- Definitions: Alike. AlikeLaws is a law.
 pub mod Alike
+pub mod AlikeLaws

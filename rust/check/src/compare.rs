@@ -25,12 +25,14 @@ pub struct Comparison<'a> {
     /// How often each answer was given in a compared call, acceptance first.
     pub met: [u64; REFUSALS],
     pub pairs: u64,
+    /// How many blocks were mended as document 02's guarantee says.
+    pub mended: u64,
 }
 
 impl<'a> Comparison<'a> {
     pub fn new(candidate: &'a mut dyn Decoder) -> Comparison<'a> {
         let (right, by_steps) = (Faulty::new(Fault::None), Faulty::by_steps());
-        Comparison { candidate, right, by_steps, met: [0; REFUSALS], pairs: 0 }
+        Comparison { candidate, right, by_steps, met: [0; REFUSALS], pairs: 0, mended: 0 }
     }
 
     /// Makes the call on both; the right effects if they agree. The codeword test is held to the steps too.

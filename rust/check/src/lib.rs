@@ -9,6 +9,7 @@ pub mod compare;
 pub mod decoder;
 pub mod decoders;
 pub mod gaps;
+pub mod guarantee;
 mod lent;
 pub mod plan;
 pub mod random;

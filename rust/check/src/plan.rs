@@ -1,7 +1,7 @@
 //! What the comparison goes through.
 
 use crate::compare::{Comparison, Disagreement};
-use crate::{alike, bad_calls, blocks, code_calls, gaps, small, values};
+use crate::{alike, bad_calls, blocks, code_calls, gaps, guarantee, small, values};
 
 /// Few calls that still show every fault.
 pub fn directed(c: &mut Comparison) -> Result<(), Disagreement> {
@@ -24,7 +24,7 @@ pub fn directed(c: &mut Comparison) -> Result<(), Disagreement> {
 pub type Part = (&'static str, fn(&mut Comparison) -> Result<(), Disagreement>);
 
 /// The whole comparison by parts.
-pub const WHOLE: [Part; 11] = [
+pub const WHOLE: [Part; 12] = [
     ("known values", values::all),
     ("every word to m 4", every_small_word),
     ("encoder, message reader, codeword test", every_code_call),
@@ -36,6 +36,7 @@ pub const WHOLE: [Part; 11] = [
     ("profiles", profile_blocks),
     ("pairs that differ by a codeword", every_pair),
     ("the gap", every_gap),
+    ("blocks that are surely mended", every_mended),
 ];
 
 fn every_small_word(c: &mut Comparison) -> Result<(), Disagreement> {
@@ -129,4 +130,16 @@ fn every_gap(c: &mut Comparison) -> Result<(), Disagreement> {
     (8..=10).try_for_each(|m| gaps::sampled(c, 1_700 + m as u64, m, 12))?;
     (1..=10).try_for_each(|m| gaps::changed(c, 1_800 + m as u64, m, 200))?;
     gaps::bad(c, 1_900, 4_000)
+}
+
+fn every_mended(c: &mut Comparison) -> Result<(), Disagreement> {
+    for m in 1..=10 {
+        for r in 0..=m {
+            match m {
+                1..=4 => guarantee::every(c, m, r)?,
+                _ => guarantee::sampled(c, 1_600 + (16 * m + r) as u64, m, r)?,
+            }
+        }
+    }
+    Ok(())
 }

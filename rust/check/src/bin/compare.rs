@@ -27,10 +27,11 @@ fn decoder(name: &str) -> Box<dyn Decoder> {
     }
 }
 
-/// How often each answer was given, and how many pairs agreed.
+/// How often each answer was given, how many pairs agreed, and how many blocks were surely mended.
 struct Met {
     answers: [u64; REFUSALS],
     pairs: u64,
+    mended: u64,
 }
 
 /// Takes parts of the plan until none is left.
@@ -38,24 +39,25 @@ fn parts(name: &str, next: &AtomicUsize) -> Result<Met, Disagreement> {
     let mut candidate = decoder(name);
     let mut c = Comparison::new(candidate.as_mut());
     while let Some((title, part)) = plan::WHOLE.get(next.fetch_add(1, Ordering::Relaxed)) {
-        let (start, calls, pairs) = (Instant::now(), c.calls(), c.pairs);
+        let (start, calls, pairs, mended) = (Instant::now(), c.calls(), c.pairs, c.mended);
         part(&mut c)?;
-        let (calls, pairs) = (c.calls() - calls, c.pairs - pairs);
-        println!("  {title}: {calls} calls, {pairs} pairs, {:.1} s", start.elapsed().as_secs_f64());
+        let (calls, pairs, mended) = (c.calls() - calls, c.pairs - pairs, c.mended - mended);
+        println!("  {title}: {calls} calls, {pairs} pairs, {mended} mended, {:.1} s", start.elapsed().as_secs_f64());
     }
-    Ok(Met { answers: c.met, pairs: c.pairs })
+    Ok(Met { answers: c.met, pairs: c.pairs, mended: c.mended })
 }
 
 fn by_threads(name: &str) -> Result<Met, Disagreement> {
     let next = AtomicUsize::new(0);
     let threads = std::thread::available_parallelism().map_or(1, |n| n.get());
-    let mut whole = Met { answers: [0; REFUSALS], pairs: 0 };
+    let mut whole = Met { answers: [0; REFUSALS], pairs: 0, mended: 0 };
     std::thread::scope(|scope| {
         let workers: Vec<_> = (0..threads).map(|_| scope.spawn(|| parts(name, &next))).collect();
         for worker in workers {
             let met = worker.join().expect("a comparison ends")?;
             whole.answers.iter_mut().zip(met.answers).for_each(|(sum, times)| *sum += times);
             whole.pairs += met.pairs;
+            whole.mended += met.mended;
         }
         Ok(whole)
     })
@@ -67,7 +69,12 @@ fn whole(name: &str) -> Result<(), Disagreement> {
     for (number, times) in met.answers.iter().enumerate() {
         println!("  answer {number:2}: {times}");
     }
-    println!("  {} calls and {} pairs agree", met.answers.iter().sum::<u64>(), met.pairs);
+    println!(
+        "  {} calls and {} pairs agree, {} blocks are surely mended",
+        met.answers.iter().sum::<u64>(),
+        met.pairs,
+        met.mended
+    );
     match (0..REFUSALS).filter(|number| met.answers[*number] == 0).collect::<Vec<usize>>() {
         none if none.is_empty() => Ok(()),
         missing => Err(Disagreement(format!("answers never met: {missing:?}"))),

@@ -1,0 +1,18 @@
+//! The data sheet: the proved table as a page for people who buy meters, and a picture of what the decoder does beyond the guarantee.
+
+pub mod picture;
+pub mod run;
+pub mod sheet;
+pub mod table;
+
+use std::path::PathBuf;
+
+/// A file of the repository.
+pub fn in_repository(path: &str) -> PathBuf {
+    PathBuf::from(env!("CARGO_MANIFEST_DIR")).join("../..").join(path)
+}
+
+pub fn read(path: &str) -> String {
+    let file = in_repository(path);
+    std::fs::read_to_string(&file).unwrap_or_else(|why| panic!("{}: {why}", file.display()))
+}

@@ -1,0 +1,90 @@
+//! docs/DATASHEET.md, made from the proved tables.
+
+use crate::run::{Course, COURSES};
+use crate::table::{Code, Profile};
+
+pub const PAGE: &str = "docs/DATASHEET.md";
+
+/// With a comma after each three digits.
+pub fn grouped(number: u64) -> String {
+    let digits = number.to_string();
+    let comma = |(i, digit): (usize, char)| {
+        let needs = i > 0 && (digits.len() - i).is_multiple_of(3);
+        [needs.then_some(','), Some(digit)]
+    };
+    digits.chars().enumerate().flat_map(comma).flatten().collect()
+}
+
+const HEAD: &str = "# What the decoder surely mends
+A block has n = 2^m bits. If at most so many of them arrive wrong as the column \"surely mended\" says, the decoder gives back exactly the \
+codeword that was sent, in at most 2 rounds, and says how many bits it mended. It does so for every message and wherever the wrong bits are: \
+this is proved, not sampled. The round limit must be 2 to 16, and the leaf limit at least the column \"leaf limit\" and at most 1,000,000.
+
+This page is made from the proved table (crates/guarantee/specs/DataSheet.antt) by the program rust/datasheet, and the gate checks that it \
+is what the program writes.
+";
+
+const MIDDLE: &str = "
+## Every code
+Where no leaf limit up to 1,000,000 is enough, nothing is promised.
+
+";
+
+fn row(cells: &[String]) -> String {
+    format!("| {} |\n", cells.join(" | "))
+}
+
+fn heading(cells: &[&str]) -> String {
+    let cells: Vec<String> = cells.iter().map(|cell| cell.to_string()).collect();
+    row(&cells) + &row(&cells.iter().map(|_| "---:".to_string()).collect::<Vec<String>>())
+}
+
+/// The row of a profile's code, whose limits allow the guarantee.
+pub fn code_of(profile: &Profile, codes: &[Code]) -> Code {
+    let code = codes.iter().find(|code| (code.m, code.r) == (profile.m, profile.r)).expect("a code of the table");
+    assert!(
+        code.fits && code.leaves <= profile.leaves && (2..=16).contains(&profile.rounds),
+        "no promise for {profile:?}"
+    );
+    *code
+}
+
+fn by_profile(profiles: &[Profile], codes: &[Code]) -> String {
+    let mut text = "\n## The five profiles\n".to_string();
+    text += &heading(&["profile", "bits a block", "order", "distance", "surely mended"]);
+    for (number, profile) in profiles.iter().enumerate() {
+        let code = code_of(profile, codes);
+        let cells = [number as u64, 1 << code.m, code.r as u64, code.distance, code.mended];
+        text += &row(&cells.map(grouped));
+    }
+    text
+}
+
+fn by_code(codes: &[Code]) -> String {
+    let mut text = MIDDLE.to_string();
+    text += &heading(&["m", "bits a block", "order r", "distance", "surely mended", "leaf limit"]);
+    for code in codes {
+        let promised = |number: u64| if code.fits { grouped(number) } else { "no promise".to_string() };
+        let start = [code.m as u64, 1 << code.m, code.r as u64, code.distance].map(grouped);
+        let leaves =
+            if code.fits { grouped(code.leaves) } else { format!("{}, above 1,000,000", grouped(code.leaves)) };
+        text += &row(&[&start[..], &[promised(code.mended), leaves]].concat());
+    }
+    text + &format!("\n{} of {} codes have the promise.\n", codes.iter().filter(|code| code.fits).count(), codes.len())
+}
+
+fn beyond() -> String {
+    let every = |step: usize| if step > 1 { format!(" in steps of {step}") } else { String::new() };
+    let blocks = |c: &Course| format!("{} of profile {}{}", grouped(c.blocks as u64), c.profile, every(c.step));
+    let runs: Vec<String> = COURSES.iter().map(blocks).collect();
+    format!(
+        "\n## Beyond the promise\n![What the decoder does with more wrong bits](datasheet.svg)\n\nThe picture is measured, not proved: for \
+         each number of wrong bits, blocks by chance from a fixed seed ({}) through the compiled library, the wrong bits anywhere with equal \
+         chance. The part that is promised is shaded. The counts are in datasheet.csv; `./datasheet` makes page, counts and picture anew.\n",
+        runs.join(", ")
+    )
+}
+
+pub fn page(codes: &[Code], profiles: &[Profile]) -> String {
+    [HEAD.to_string(), by_profile(profiles, codes), by_code(codes), beyond()].concat()
+}
