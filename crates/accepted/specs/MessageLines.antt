@@ -1,41 +1,41 @@
--- Laws of an accepted record's line: how long an accepted word's message is, and that reading it is never refused. Assumes nothing.
-use Prim.Native.Nat.{ℕ, zero, suc, _≤_}
+-- Laws of an accepted record's line: how long an accepted word's message can be, and that reading it is never refused. Assumes nothing.
+use Prim.Native.Nat.{ℕ, zero, suc, _^_, _≤_}
+use native.Mathlib.Nat.{le-trans}
+use native.Mathlib.Decide.{decLe}
 use native.Mathlib.Omega.{arith}
-use mathlib.Core.Path.{_≡_, sym, ap}
-use mathlib.Core.List.{List, [], _∷_}
-use lib.ListN.{length, getD}
+use mathlib.Core.Path.{_≡_}
+use mathlib.Core.List.{List}
+use lib.ListN.{length}
+use lib.Pow.{pow-mono}
+use Rattle.words.specs.Sum.{total}
 use Rattle.refusals.specs.declared.Answer.{Answer}
 use Rattle.refusals.specs.declared.Answer.the-variants.{Done}
 use Rattle.refusals.specs.Refusals.{firstRefusal}
-use Rattle.code.specs.Code.{dimension, messageOf}
+use Rattle.code.specs.Code.{degree, dimension, messageOf, rank}
+use Rattle.code.specs.MessageLaws.{rank-in, rank-out}
 use Rattle.codec_checks.specs.Checks.{readChecks}
 use Rattle.codec_checks.specs.Passed.{read-passes}
 use Rattle.codec.specs.Calls.{Reads}
 use Rattle.codec.specs.CallLaws.{call-passed}
-use Rattle.profiles.specs.Profiles.{profileOf}
-use Rattle.rule.specs.ProfileLaws.{profile-dimensions}
 use Rattle.accepted.specs.Accepted.{Readable}
 
--- ---- k of the profiles
+-- ---- how long a message can be
 
-abbrev pub messageSizes : List ℕ
-messageSizes = 6 ∷ 22 ∷ 29 ∷ 37 ∷ 93 ∷ []
+rank-most : (r n : ℕ) → rank r n ≤ n
+unfolding rank total
+rank-most r zero = omega arith
+rank-most r (suc n) = elim (decLe (degree n) r) [
+  | yes l ↦ rw (rank-in r n l) (omega (arith, rank-most r n))
+  | no k ↦ rw (rank-out r n (omega arith)) (omega (arith, rank-most r n))
+]
 
-pub message-size : (profile : ℕ) → profile ≤ 4 → getD messageSizes profile 0 ≡ dimension (profileOf profile .m) (profileOf profile .r)
-message-size zero h = sym (ap (λ (l : List ℕ). getD l 0 0) profile-dimensions)
-message-size (suc zero) h = sym (ap (λ (l : List ℕ). getD l 1 0) profile-dimensions)
-message-size (suc (suc zero)) h = sym (ap (λ (l : List ℕ). getD l 2 0) profile-dimensions)
-message-size (suc (suc (suc zero))) h = sym (ap (λ (l : List ℕ). getD l 3 0) profile-dimensions)
-message-size (suc (suc (suc (suc zero)))) h = sym (ap (λ (l : List ℕ). getD l 4 0) profile-dimensions)
-message-size (suc (suc (suc (suc (suc n))))) h = absurd (omega arith)
+pub dimension-size : (m r : ℕ) → dimension m r ≤ 2 ^ m
+unfolding dimension
+dimension-size m r = rank-most r (2 ^ m)
 
-pub message-size-most : (profile : ℕ) → getD messageSizes profile 0 ≤ 93
-message-size-most zero = omega arith
-message-size-most (suc zero) = omega arith
-message-size-most (suc (suc zero)) = omega arith
-message-size-most (suc (suc (suc zero))) = omega arith
-message-size-most (suc (suc (suc (suc zero)))) = omega arith
-message-size-most (suc (suc (suc (suc (suc n))))) = omega arith
+pub dimension-most : (m r : ℕ) → m ≤ 10 → dimension m r ≤ 1024
+unfolding dimension
+dimension-most m r h = le-trans (rank-most r (2 ^ m)) (pow-mono h)
 
 -- ---- the message reader on a codeword
 

@@ -2,9 +2,12 @@
 ghost use mathlib.Core.Path.{_≡_};
 ghost use Prim.Native.Nat.{_+_, _%_, _^_, _≤_, _<_};
 ghost use lib.ListN.{length};
-ghost use Rattle.capture.specs.Capture.{serialOf, wordSize, Finds};
-ghost use Rattle.capture.specs.Body.{bodyLength, Stands};
+ghost use mathlib.Core.Bool.{true};
+ghost use Rattle.tables.specs.Slots.{Proper};
+ghost use Rattle.capture.specs.Capture.{profileAt, serialOf, wordSize, bodyLength, Finds, Stands};
 use refusals::Refusal;
+use tables::Slot;
+use tables::Table;
 
 // What stands at a position of a capture.
 pub enum Found {
@@ -29,19 +32,29 @@ fn serial_of(part: &[u8]) -> u32
     ((wide(part[0]) * 256 + wide(part[1])) * 256 + wide(part[2])) * 256 + wide(part[3])
 }
 
-// The word length of a profile.
-fn word_size(profile: usize) -> usize
-    requires { ⌜ profile ≤ 4 ⌝ }
-    ensures { λ n. ⌜ (n ≡ wordSize profile) × (n ≤ 256) × (n % 8 ≡ 0) ⌝ }
+// The profile of the record at the start of the part, 0 where it is not there.
+pub fn number_at(start: &[u8]) -> usize
+    ensures { λ n. ⌜ n ≡ profileAt (now (start .entry)) ⌝ }
 {
-    let p = profiles::by_number(profile);
-    words::size(p.m)
+    if start.len() < 5 {
+        return 0;
+    }
+    start[4] as usize
 }
 
-// The record at the start of the part, which stands at position `at` of the capture.
-fn record_in(part: &[u8], at: usize, word: &mut [u8]) -> Found
-    requires { ⌜ at + length (now part) < 2 ^ 64 ⌝ }
-    ensures { λ f. ⌜ Stands (now (part .entry)) at (now (word .entry)) (now (word .exit)) f ⌝ }
+// The word length of an entry.
+fn word_size(slot: Slot) -> usize
+    requires { ⌜ Proper slot × (slot .known ≡ true) ⌝ }
+    ensures { λ n. ⌜ (n ≡ wordSize slot) × (n ≤ 1024) × (n % 8 ≡ 0) ⌝ }
+{
+    words::size(slot.profile.m)
+}
+
+// The record at the start of the part, which stands at position `at` of the capture, by what the table has at its profile. Its bits are
+// unpacked into the word. Any other answer leaves the word as it was.
+pub fn record_in(slot: Slot, part: &[u8], at: usize, word: &mut [u8]) -> Found
+    requires { ⌜ Proper slot × (at + length (now part) < 2 ^ 64) ⌝ }
+    ensures { λ f. ⌜ Stands slot (now (part .entry)) at (now (word .entry)) (now (word .exit)) f ⌝ }
 {
     if part.len() == 0 {
         return Found::NoneLeft;
@@ -51,10 +64,10 @@ fn record_in(part: &[u8], at: usize, word: &mut [u8]) -> Found
     }
     let serial = serial_of(part);
     let profile = part[4] as usize;
-    if 4 < profile {
+    if !slot.known {
         return Found::Refused(Refusal::Profile, serial);
     }
-    let n = word_size(profile);
+    let n = word_size(slot);
     let end = 5 + n / 8;
     if part.len() < end {
         return Found::Refused(Refusal::Truncated, 0);
@@ -66,26 +79,28 @@ fn record_in(part: &[u8], at: usize, word: &mut [u8]) -> Found
     Found::Record(serial, profile, at + end)
 }
 
-// The record at a position of the capture, its bits unpacked into the word. Any other answer leaves the word as it was.
-pub fn find_record(capture: &[u8], at: usize, word: &mut [u8]) -> Found
-    ensures { λ f. ⌜ Finds (now (capture .entry)) at (now (word .entry)) (now (word .exit)) f ⌝ }
+// The record at a position of the capture, under a table.
+pub fn find_record(table: Table, capture: &[u8], at: usize, word: &mut [u8]) -> Found
+    ensures { λ f. ⌜ Finds table (now (capture .entry)) at (now (word .entry)) (now (word .exit)) f ⌝ }
 {
     if capture.len() <= at {
         return Found::NoneLeft;
     }
-    record_in(&capture[at..], at, word)
+    let number = number_at(&capture[at..]);
+    let slot = tables::look(table, number);
+    record_in(slot, &capture[at..], at, word)
 }
 
 // How many bytes follow the five of a record's head: 0 where there are fewer than five or the profile is unknown.
-pub fn body_length(head: &[u8]) -> usize
-    ensures { λ n. ⌜ (n ≡ bodyLength (now (head .entry))) × (n ≤ 32) ⌝ }
+pub fn body_length(slot: Slot, head: &[u8]) -> usize
+    requires { ⌜ Proper slot ⌝ }
+    ensures { λ n. ⌜ (n ≡ bodyLength slot (now (head .entry))) × (n ≤ 128) ⌝ }
 {
     if head.len() < 5 {
         return 0;
     }
-    let profile = head[4] as usize;
-    if 4 < profile {
+    if !slot.known {
         return 0;
     }
-    word_size(profile) / 8
+    word_size(slot) / 8
 }

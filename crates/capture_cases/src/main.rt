@@ -39,7 +39,7 @@ fn read(at: usize, word: &mut [u8]) {
     // the first record of document 01's example, a record of profile 1, a profile above 4, and a record that is cut
     let capture =
         b"\x00\x3D\x09\x11\x00\x7F\xFF\x00\x00\x00\x00\x00\x07\x01\x80\x00\x00\x00\x00\x00\x00\x01\x00\x00\x00\x08\x05\x00\x00\x00\x09\x00\xFF\xFF\xFF";
-    let found = capture::find_record(capture, at, word);
+    let found = capture::find_record(tables::ours(), capture, at, word);
     print_found(found);
     print(b", word of ", word.len() as u64);
     io::write_all(STDOUT_FILENO, b" (");

@@ -1,10 +1,33 @@
--- What the decoding of a record's word asks. Assumes nothing.
-use Prim.Native.Nat.{ℕ, _≤_}
+-- What the decoding of a record's word and its lines ask and promise. Assumes nothing.
+use Prim.Native.Nat.{ℕ}
+use mathlib.Core.Path.{_≡_}
 use mathlib.Core.List.{List}
-use Rattle.profiles.specs.Profiles.{profileOf}
+use lib.IntN.{ℤ}
+use Rattle.rule.specs.Decoding.{zeros}
+use Rattle.profiles.specs.declared.Profile.{Profile}
+use Rattle.tables.specs.Limits.{InLimits}
 use Rattle.rule.specs.DecodingLaws.{RightSizes}
+use Rattle.text.specs.Texts.{Appended}
+use Rattle.lines.specs.Lines.{Entry, entry, billing, recordEntry}
+use Rattle.entries.specs.declared.records.Line.{Line}
 
--- a word of a profile, with an output of `room` bytes and an area of `area` numbers
-pub record Decodable (profile : ℕ) (word : List ℕ) (room area : ℕ) : Type 0 where
-  pub known : profile ≤ 4
-  pub sizes : RightSizes (profileOf profile .m) word room area
+-- a word of an entry, with an output of `room` bytes and an area of `area` numbers
+pub record Decodable (p : Profile) (word : List ℕ) (room area : ℕ) : Type 0 where
+  pub limits : InLimits p
+  pub sizes : RightSizes (p .m) word room area
+
+abbrev pub lineIn : Entry → List ℕ
+lineIn (entry line ok) = line
+
+abbrev pub okIn : Entry → ℕ
+okIn (entry line ok) = ok
+
+-- the line of an entry was put at place `at` of the output
+pub record Lined (e : Entry) (before : List ℕ) (at : ℕ) (after : List ℕ) (line : Line) : Type 0 where
+  pub text : Appended before at (lineIn e) (line .end) after
+  pub counted : line .accepted ≡ okIn e
+
+-- billing's line of a record was put there, whatever the number of its profile, and its word was read in the area
+pub record Billed (serial : ℕ) (p : Profile) (word before : List ℕ) (at : ℕ) (after : List ℕ) (area area′ : List ℤ) (line : Line) : Type 0 where
+  pub lined : (number : ℕ) → Lined (recordEntry billing serial number p word) before at after line
+  pub lent : area′ ≡ zeros area

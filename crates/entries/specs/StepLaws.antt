@@ -3,34 +3,37 @@ use Prim.Native.Nat.{ℕ, _*_, _≤_, _<_}
 use native.Mathlib.Decide.{decLt}
 use native.Mathlib.Omega.{arith}
 use mathlib.Core.Path.{_≡_, refl, sym, ap, _∙_}
-use mathlib.Core.Bool.{Bool, true, false, cond, false≢true}
+use mathlib.Core.Bool.{Bool, true, false, cond, not, false≢true}
 use mathlib.Core.List.{List, [], _∷_, _++_, append-nil}
 use lib.Dec.{eqb, ltb}
 use borrow.Author.Tests.{eqb-true}
 use lib.ListN.{length, take}
 use lib.Seq.{take-length}
+use lib.IntN.{ℤ}
 use Rattle.words.specs.Word.{IsWord}
 use Rattle.words.specs.WordLaws.{word-tabulate}
-use Rattle.profiles.specs.Profiles.{profileOf}
+use Rattle.profiles.specs.declared.Profile.{Profile}
+use Rattle.tables.specs.declared.Table.{Table}
+use Rattle.tables.specs.declared.Slot.{Slot}
+use Rattle.tables.specs.Slots.{Proper}
 use Rattle.unpacking.specs.Packed.{packedBit}
 use Rattle.capture.specs.declared.Found.{Found}
 use Rattle.capture.specs.declared.Found.the-variants as found
 use Rattle.capture.specs.Capture as capture
-use Rattle.capture.specs.Capture.{Finds, answerOf, bufferOf, profileAt, recordIn, recordSize, unpacked, wordSize}
-use Rattle.capture.specs.Body.{bodyLength}
-use Rattle.capture.specs.Cases.{none, own-size, sized}
+use Rattle.capture.specs.Capture.{answerOf, bufferOf, recordIn, recordSize, slotAt, unpacked, wordSize}
+use Rattle.capture.specs.Capture.{bodyLength, Stands}
+use Rattle.capture.specs.Cases.{none, known-body, own-size, sized}
 use Rattle.rule.specs.Reading.{Outcome, accepted, refused}
-use Rattle.rule.specs.Decoding.{decodeProfileOf}
-use Rattle.lines.specs.Lines.{cutLine, refusedLine, Entry, entry, entryFor, recordEntry}
+use Rattle.rule.specs.Decoding.{zeros}
+use Rattle.lines.specs.Lines.{Lines, Entry, entry, acceptedIn, billing, decodedBy, recordEntry}
 use Rattle.text.specs.Texts.{Appended}
 use Rattle.text.specs.TextLaws.{appended-within}
-use Rattle.accepted.specs.declared.Line.{Line}
-use Rattle.accepted.specs.Accepted.{Lined, lineIn, okIn}
-use Rattle.entries.specs.Decodable.{Decodable}
-use Rattle.pieces.specs.Listing.{linesOf, acceptedOf}
-use Rattle.pieces.specs.Pieces.{entries}
-use Rattle.pieces.specs.Steps.{Stepped}
-use Rattle.entries.specs.EntryLaws.{start, record-of, record-entry, record-whole, entries-refused, ends-alone}
+use Rattle.entries.specs.declared.records.Line.{Line}
+use Rattle.entries.specs.Decodable.{Billed, Decodable, Lined, lineIn, okIn}
+use Rattle.pieces.specs.Listing.{linesOf, acceptedOf, isRecord, start, startsRecord}
+use Rattle.pieces.specs.Pieces.{areaAfter, entries}
+use Rattle.pieces.specs.Steps.{Steps}
+use Rattle.entries.specs.EntryLaws.{record-of, record-entry, record-whole, entries-refused, ends-alone}
 use Rattle.pieces.specs.PieceLaws.{entries-nil}
 
 -- ---- what the answer says of the part
@@ -50,30 +53,30 @@ empty : (t : Bool) {y : capture.Answer} → (y ≡ capture.none-left → ⊥) �
 empty true h e = refl
 empty false h e = absurd (h e)
 
-none-length : (s : List ℕ) → start s ≡ capture.none-left → length s ≡ 0
+none-length : (slot : Slot) (s : List ℕ) → start slot s ≡ capture.none-left → length s ≡ 0
 unfolding recordIn
-none-length s e =
+none-length slot s e =
     eqb-true (length s) 0
     (empty (eqb (length s) 0)
     (never (ltb (length s) 5) no-refusal
-    (never (ltb 4 (profileAt s)) no-refusal
-    (never (ltb (length s) (recordSize (profileAt s))) no-refusal
-    (never (eqb (wordSize (profileAt s)) (wordSize (profileAt s))) no-record no-refusal))))
+    (never (not (slot .known)) no-refusal
+    (never (ltb (length s) (recordSize slot)) no-refusal
+    (never (eqb (wordSize slot) (wordSize slot)) no-record no-refusal))))
     e)
 
-refused-length : (s : List ℕ) {number serial : ℕ} → start s ≡ capture.refused number serial → 0 < length s
-refused-length s e = elim (decLt 0 (length s)) [
+refused-length : (slot : Slot) (s : List ℕ) {number serial : ℕ} → start slot s ≡ capture.refused number serial → 0 < length s
+refused-length slot s e = elim (decLt 0 (length s)) [
   | yes l ↦ l
-  | no k ↦ let z : capture.none-left ≡ start s = none s 0 (wordSize (profileAt s)) (omega arith) in let y : _≡_ {A = ℕ} 0 1 = cc in absurd (omega arith)
+  | no k ↦ let z : capture.none-left ≡ start slot s = none slot s 0 (wordSize slot) (omega arith) in let y : _≡_ {A = ℕ} 0 1 = cc in absurd (omega arith)
 ]
 
-ok-most : (serial profile : ℕ) (o : Outcome) → okIn (entryFor serial profile o) ≤ 1
-ok-most serial profile (accepted d k l) = omega arith
-ok-most serial profile (refused e k l) = omega arith
+ok-most : (o : Outcome) → acceptedIn o ≤ 1
+ok-most (accepted d k l) = omega arith
+ok-most (refused e k l) = omega arith
 
-entry-ok : (serial profile : ℕ) (word : List ℕ) → okIn (recordEntry serial profile word) ≤ 1
+entry-ok : (reader : Lines) (serial number : ℕ) (p : Profile) (word : List ℕ) → okIn (recordEntry reader serial number p word) ≤ 1
 unfolding recordEntry
-entry-ok serial profile word = ok-most serial profile (decodeProfileOf profile word)
+entry-ok reader serial number p word = ok-most (decodedBy p word)
 
 lines-one : (e : Entry) → linesOf (e ∷ []) ≡ lineIn e
 lines-one (entry line ok) = append-nil line
@@ -83,88 +86,125 @@ accepted-one (entry line ok) = omega arith
 
 -- ---- what the capture reader found
 
-module _ {part word word′ : List ℕ} {f : Found} (size : length word ≡ 8 * bodyLength part) (c : Finds part 0 word word′ f) where
-  pub found-start : start part ≡ answerOf f
-  found-start = sym (c .answer ∙ ap (recordIn part 0) size ∙ own-size part 0)
+module _ {slot : Slot} {part word word′ : List ℕ} {f : Found} (proper : Proper slot) (size : length word ≡ 8 * bodyLength slot part) (c : Stands slot part 0 word word′ f) where
+  pub found-start : start slot part ≡ answerOf f
+  found-start = sym (c .answer ∙ ap (recordIn slot part 0) size ∙ own-size slot part 0 proper)
 
-  pub found-word : {serial profile next : ℕ} → f ≡ found.Record serial profile next → word′ ≡ unpacked profile part
-  found-word e = c .buffer ∙ ap (λ (a : capture.Answer). bufferOf a part word) (sym (c .answer) ∙ ap answerOf e)
+  pub found-word : {serial number next : ℕ} → f ≡ found.Record serial number next → word′ ≡ unpacked slot part
+  found-word e = c .buffer ∙ ap (λ (a : capture.Answer). bufferOf slot a part word) (sym (c .answer) ∙ ap answerOf e)
 
 -- ---- a record's word
 
-pub record-decodable : (s : List ℕ) {serial profile next : ℕ} {word : List ℕ} (area : ℕ) → start s ≡ capture.record-at serial profile next → word ≡ unpacked profile s → 2048 ≤ area
-    → Decodable profile word (length word) area
+pub record-decodable : (slot : Slot) (s : List ℕ) {serial number next : ℕ} {word : List ℕ} (room area : ℕ) → Proper slot → start slot s ≡ capture.record-at serial number next
+    → word ≡ unpacked slot s → room ≡ length word → 64 * bodyLength slot s ≤ area → Decodable (slot .profile) word room area
 unfolding unpacked
-record-decodable s {profile = profile} {word} area e w h =
-    let r = record-of s e in
-    let known : profile ≤ 4 = omega (arith, r .profile-is, r .known) in
-    let is : IsWord (profileOf profile .m) word = rw w (word-tabulate (profileOf profile .m) (packedBit s) (λ p l. omega arith)) in
-    record { known = known; sizes = record { input = is; output = is .size; lent = omega (arith, sized profile known .most) } }
+record-decodable slot s {word = word} room area proper e w q h =
+    let r = record-of slot s e in
+    let is : IsWord (slot .profile .m) word = rw w (word-tabulate (slot .profile .m) (packedBit s) (λ p l. omega arith)) in
+    record {
+      limits = proper .limits (r .known);
+      sizes = record { input = is; output = q ∙ is .size; lent = omega (arith, known-body slot s (r .head) (r .known), sized slot proper (r .known) .bytes) };
+    }
 
 -- ---- the steps
 
-module _ {part before : List ℕ} {at : ℕ} (h : at ≤ length before) where
+-- whether a record stands there, by what the table has at its profile; and the area, as it was or cleared
+module _ (t : Table) (part : List ℕ) where
+  reads-by : {slot : Slot} {a : capture.Answer} → slot ≡ slotAt t part → start slot part ≡ a → startsRecord t part ≡ isRecord a
+  reads-by {slot} q e = ap (λ (x : Slot). isRecord (start x part)) (sym q) ∙ ap isRecord e
+
+  untouched : (area : List ℤ) → startsRecord t part ≡ false → area ≡ areaAfter (startsRecord t part) area
+  untouched area e = rw e
+
+  cleared : (area : List ℤ) {area′ : List ℤ} → startsRecord t part ≡ true → area′ ≡ zeros area → area′ ≡ areaAfter (startsRecord t part) area
+  cleared area e h = rw (e, h)
+
+module _ {reader : Lines} {slot : Slot} {part before : List ℕ} {at : ℕ} (h : at ≤ length before) where
   -- no byte is left
-  pub step-none : start part ≡ capture.none-left → Stepped part before at before (record { consumed = 0; written = at; records = 0; accepted = 0; ended = true })
-  step-none e = record {
-    piece = record {
-      within = omega arith;
-      counted = h;
-      lines = sym (append-nil (take at before)) ∙ ap (λ (es : List Entry). take at before ++ linesOf es) (sym entries-nil);
-      records = ap length (sym entries-nil);
-      accepted = ap acceptedOf (sym entries-nil);
-      few = omega arith;
-      fewer = omega arith;
-      goes-on = λ z. absurd (false≢true (sym z));
-      all = λ z. sym (none-length part e);
-      alone = λ z. ends-alone part (λ i p n q. let y : _≡_ {A = ℕ} 0 1 = cc in omega arith);
+  pub step-none : start slot part ≡ capture.none-left → (area : List ℤ) → Steps reader slot part before at before area area (record { consumed = 0; written = at; records = 0; accepted = 0; ended = true })
+  step-none e area = record {
+    under = λ t q. let f : start (slotAt t part) part ≡ capture.none-left = ap (λ (x : Slot). start x part) (sym q) ∙ e in record {
+      piece = record {
+        within = omega arith;
+        counted = h;
+        past = refl;
+        lines = sym (append-nil (take at before)) ∙ ap (λ (es : List Entry). take at before ++ linesOf es) (sym (entries-nil t reader));
+        records = ap length (sym (entries-nil t reader));
+        accepted = ap acceptedOf (sym (entries-nil t reader));
+        few = omega arith;
+        fewer = omega arith;
+        goes-on = λ z. absurd (false≢true (sym z));
+        all = λ z. sym (none-length slot part e);
+        alone = λ z. ends-alone t reader part (λ i p n g. let y : _≡_ {A = ℕ} 0 1 = cc in omega arith);
+      };
+      moves = λ z. absurd (false≢true (sym z));
+      reads = ap not (sym (reads-by t part q e));
+      lent = untouched t part area (reads-by t part q e);
     };
-    moves = λ z. absurd (false≢true (sym z));
   }
 
   -- a refusal, 14 or 16
-  pub step-refused : {number serial end : ℕ} {after : List ℕ} → start part ≡ capture.refused number serial
-      → Appended before at (cond (eqb number 16) cutLine (refusedLine serial number)) end after
-      → Stepped part before at after (record { consumed = length part; written = end; records = 1; accepted = 0; ended = true })
-  step-refused {number} {serial} {end} {after} e a =
-      let line : Entry = entry (cond (eqb number 16) cutLine (refusedLine serial number)) 0 in
-      let es : entries (take (length part) part) ≡ line ∷ [] = ap entries (take-length part) ∙ entries-refused part e in
-      record {
-        piece = record {
-          within = omega arith;
-          counted = appended-within a h;
-          lines = a .holds ∙ ap (λ (l : List ℕ). take at before ++ l) (sym (lines-one line) ∙ ap linesOf (sym es));
-          records = ap length (sym es);
-          accepted = ap acceptedOf (sym es);
-          few = refused-length part e;
-          fewer = omega arith;
-          goes-on = λ z. absurd (false≢true (sym z));
-          all = λ z. refl;
-          alone = λ z. ends-alone part (λ i p n q. let y : _≡_ {A = ℕ} 0 1 = cc in omega arith);
+  pub step-refused : {number serial end : ℕ} {after : List ℕ} → start slot part ≡ capture.refused number serial
+      → Appended before at (reader .ofRefusal number serial) end after → (area : List ℤ)
+      → Steps reader slot part before at after area area (record { consumed = length part; written = end; records = 1; accepted = 0; ended = true })
+  step-refused {number} {serial} {end} {after} e a area = record {
+    under = λ t q.
+        let f : start (slotAt t part) part ≡ capture.refused number serial = ap (λ (x : Slot). start x part) (sym q) ∙ e in
+        let line : Entry = entry (reader .ofRefusal number serial) 0 in
+        let es : entries t reader (take (length part) part) ≡ line ∷ [] = ap (entries t reader) (take-length part) ∙ entries-refused t reader part f in
+        record {
+          piece = record {
+            within = omega arith;
+            counted = appended-within a h;
+            past = a .past;
+            lines = a .holds ∙ ap (λ (l : List ℕ). take at before ++ l) (sym (lines-one line) ∙ ap linesOf (sym es));
+            records = ap length (sym es);
+            accepted = ap acceptedOf (sym es);
+            few = refused-length slot part e;
+            fewer = omega arith;
+            goes-on = λ z. absurd (false≢true (sym z));
+            all = λ z. refl;
+            alone = λ z. ends-alone t reader part (λ i p n g. let y : _≡_ {A = ℕ} 0 1 = cc in omega arith);
+          };
+          moves = λ z. absurd (false≢true (sym z));
+          reads = ap not (sym (reads-by t part q e));
+          lent = untouched t part area (reads-by t part q e);
         };
-        moves = λ z. absurd (false≢true (sym z));
-      }
+  }
 
   -- a record
-  pub step-record : {serial profile next : ℕ} {after : List ℕ} {line : Line} → start part ≡ capture.record-at serial profile next
-      → Lined (recordEntry serial profile (unpacked profile part)) before at after line
-      → Stepped part before at after (record { consumed = next; written = line .end; records = 1; accepted = line .accepted; ended = false })
-  step-record {serial} {profile} {next} {after} {line} e a =
-      let r = record-of part e in
-      let it : Entry = recordEntry serial profile (unpacked profile part) in
-      let es : entries (take next part) ≡ it ∷ [] = record-entry part e in
-      record {
-        piece = record {
-          within = omega (arith, r .next-is, r .fits);
-          counted = appended-within (a .text) h;
-          lines = a .text .holds ∙ ap (λ (l : List ℕ). take at before ++ l) (sym (lines-one it) ∙ ap linesOf (sym es));
-          records = ap length (sym es);
-          accepted = a .counted ∙ sym (accepted-one it) ∙ ap acceptedOf (sym es);
-          few = omega (arith, r .next-is);
-          fewer = omega (arith, a .counted, entry-ok serial profile (unpacked profile part));
-          goes-on = λ z. record-whole part e;
-          all = λ z. absurd (false≢true z);
-          alone = λ z. absurd (false≢true z);
+  step-record : {serial number next : ℕ} {after : List ℕ} {area area′ : List ℤ} {line : Line} → start slot part ≡ capture.record-at serial number next
+      → Lined (recordEntry reader serial number (slot .profile) (unpacked slot part)) before at after line → area′ ≡ zeros area
+      → Steps reader slot part before at after area area′ (record { consumed = next; written = line .end; records = 1; accepted = line .accepted; ended = false })
+  step-record {serial} {number} {next} {after} {area} {line = line} e a z = record {
+    under = λ t q.
+        let f : start (slotAt t part) part ≡ capture.record-at serial number next = ap (λ (x : Slot). start x part) (sym q) ∙ e in
+        let r = record-of slot part e in
+        let it : Entry = recordEntry reader serial number (slot .profile) (unpacked slot part) in
+        let es : entries t reader (take next part) ≡ it ∷ [] = record-entry t reader part f
+        ∙ ap (λ (x : Slot). recordEntry reader serial number (x .profile) (unpacked x part) ∷ []) (sym q) in
+        record {
+          piece = record {
+            within = omega (arith, r .next-is, r .fits);
+            counted = appended-within (a .text) h;
+            past = a .text .past;
+            lines = a .text .holds ∙ ap (λ (l : List ℕ). take at before ++ l) (sym (lines-one it) ∙ ap linesOf (sym es));
+            records = ap length (sym es);
+            accepted = a .counted ∙ sym (accepted-one it) ∙ ap acceptedOf (sym es);
+            few = omega (arith, r .next-is);
+            fewer = omega (arith, a .counted, entry-ok reader serial number (slot .profile) (unpacked slot part));
+            goes-on = λ z. record-whole t reader part f;
+            all = λ z. absurd (false≢true z);
+            alone = λ z. absurd (false≢true z);
+          };
+          moves = λ y. omega (arith, r .next-is);
+          reads = ap not (sym (reads-by t part q e));
+          lent = cleared t part area (reads-by t part q e) z;
         };
-        moves = λ z. omega (arith, r .next-is);
-      }
+  }
+
+-- billing's line of a record
+pub step-billed : {slot : Slot} {part word before after : List ℕ} {at serial number next : ℕ} {area area′ : List ℤ} {line : Line} → at ≤ length before
+    → start slot part ≡ capture.record-at serial number next → word ≡ unpacked slot part → Billed serial (slot .profile) word before at after area area′ line
+    → Steps billing slot part before at after area area′ (record { consumed = next; written = line .end; records = 1; accepted = line .accepted; ended = false })
+step-billed {number = number} h e w b = step-record h e (rw w at (b .lined number)) (b .lent)

@@ -2,20 +2,31 @@
 ghost use mathlib.Core.Path.{_≡_};
 ghost use Prim.Native.Nat.{_+_, _*_, _≤_};
 ghost use lib.ListN.{length};
-ghost use Rattle.capture.specs.Body.{bodyLength};
-ghost use Rattle.pieces.specs.Steps.{Stepped};
+ghost use Rattle.capture.specs.Capture.{bodyLength};
+ghost use Rattle.tables.specs.Slots.{Proper};
+ghost use Rattle.lines.specs.Lines.{billing};
+ghost use Rattle.pieces.specs.Steps.{Steps};
 use capture::Found;
 use notices::refusal_line;
 use pieces::Listed;
+use tables::Slot;
 
 mod records;
 
 // The line of what stands at the start of the part, by way of a word buffer of its size. 14, 16 and no byte left end the listing.
-fn list_found(part: &[u8], word: &mut [u8], out: &mut [u8], at: usize, area: &mut [i32]) -> Listed
-    requires { ⌜ (length (now word) ≡ 8 * bodyLength (now part)) × (at + 36 ≤ length (now out)) × (2048 ≤ length (now area)) ⌝ }
-    ensures { λ d. ⌜ Stepped (now (part .entry)) (now (out .entry)) at (now (out .exit)) d ⌝ }
+fn list_found(
+    slot: Slot,
+    part: &[u8],
+    word: &mut [u8],
+    decoded: &mut [u8],
+    out: &mut [u8],
+    at: usize,
+    area: &mut [i32],
+) -> Listed
+    requires { ⌜ Proper slot × (length (now word) ≡ 8 * bodyLength slot (now part)) × (length (now decoded) ≡ length (now word)) × (at + 268 ≤ length (now out)) × (64 * bodyLength slot (now part) ≤ length (now area)) ⌝ }
+    ensures { λ d. ⌜ Steps billing slot (now (part .entry)) (now (out .entry)) at (now (out .exit)) (now (area .entry)) (now (area .exit)) d ⌝ }
 {
-    let found = capture::find_record(part, 0, word);
+    let found = capture::record_in(slot, part, 0, word);
     match found {
         Found::NoneLeft => Listed {
             consumed: 0,
@@ -31,8 +42,8 @@ fn list_found(part: &[u8], word: &mut [u8], out: &mut [u8], at: usize, area: &mu
             accepted: 0,
             ended: true,
         },
-        Found::Record(serial, profile, next) => {
-            let line = records::record_line(serial, profile, word, out, at, area);
+        Found::Record(serial, _, next) => {
+            let line = records::record_line(serial, slot.profile, word, decoded, out, at, area);
             Listed {
                 consumed: next,
                 written: line.end,
@@ -44,12 +55,27 @@ fn list_found(part: &[u8], word: &mut [u8], out: &mut [u8], at: usize, area: &mu
     }
 }
 
-// The line of what stands at the start of the part.
-pub fn list_one(part: &[u8], out: &mut [u8], at: usize, area: &mut [i32]) -> Listed
-    requires { ⌜ (at + 36 ≤ length (now out)) × (2048 ≤ length (now area)) ⌝ }
-    ensures { λ d. ⌜ Stepped (now (part .entry)) (now (out .entry)) at (now (out .exit)) d ⌝ }
+// The line of what stands at the start of the part, by what the table has at its profile, by way of two buffers for the longest words.
+pub fn list_one(
+    slot: Slot,
+    part: &[u8],
+    word: &mut [u8],
+    decoded: &mut [u8],
+    out: &mut [u8],
+    at: usize,
+    area: &mut [i32],
+) -> Listed
+    requires { ⌜ Proper slot × (1024 ≤ length (now word)) × (1024 ≤ length (now decoded)) × (at + 268 ≤ length (now out)) × (64 * bodyLength slot (now part) ≤ length (now area)) ⌝ }
+    ensures { λ d. ⌜ Steps billing slot (now (part .entry)) (now (out .entry)) at (now (out .exit)) (now (area .entry)) (now (area .exit)) d ⌝ }
 {
-    let bits = 8 * capture::body_length(part);
-    let mut word = [0u8; 256];
-    list_found(part, &mut word[0..bits], out, at, area)
+    let bits = 8 * capture::body_length(slot, part);
+    list_found(
+        slot,
+        part,
+        &mut word[0..bits],
+        &mut decoded[0..bits],
+        out,
+        at,
+        area,
+    )
 }

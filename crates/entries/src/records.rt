@@ -1,58 +1,38 @@
 // The line of a record: its word decoded, and the message of what was decoded.
 ghost use Prim.Native.Nat.{_+_, _≤_};
 ghost use lib.ListN.{length};
-ghost use Rattle.lines.specs.Lines.{recordEntry};
-ghost use Rattle.accepted.specs.Accepted.{Lined};
-ghost use Rattle.entries.specs.Decodable.{Decodable};
-use accepted::Line;
-use accepted::accepted_line;
+ghost use Rattle.entries.specs.Decodable.{Billed, Decodable};
+use profiles::Profile;
 use refusals::Decoded;
 
-// The line of a record with that word, by way of `decoded`.
-fn line_by(
+// Where a line ends, and 1 where its record was accepted.
+pub struct Line {
+    pub end: usize,
+    pub accepted: usize,
+}
+
+// The line of a record with that word, whatever its profile's number, by way of `decoded`. The word's buffer serves for the message.
+pub fn record_line(
     serial: u32,
-    profile: usize,
-    word: &[u8],
+    p: Profile,
+    word: &mut [u8],
     decoded: &mut [u8],
     out: &mut [u8],
     at: usize,
     area: &mut [i32],
 ) -> Line
-    requires { ⌜ Decodable profile (now word) (length (now decoded)) (length (now area)) × (at + 36 ≤ length (now out)) ⌝ }
-    ensures { λ line. ⌜ Lined (recordEntry serial profile (now (word .entry))) (now (out .entry)) at (now (out .exit)) line ⌝ }
+    requires { ⌜ Decodable p (now word) (length (now decoded)) (length (now area)) × (at + 268 ≤ length (now out)) ⌝ }
+    ensures { λ line. ⌜ Billed serial p (now (word .entry)) (now (out .entry)) at (now (out .exit)) (now (area .entry)) (now (area .exit)) line ⌝ }
 {
-    let answer = decoder::decode_profile(profile, word, decoded, area);
+    let answer = decoder::decode(p.m, p.r, p.rounds, p.leaves, word, decoded, area);
     match answer {
-        Decoded::Accepted(_, _, _) => accepted_line(serial, profile, decoded, out, at),
+        Decoded::Accepted(_, _, _) => Line {
+            end: accepted::accepted_line(serial, p, decoded, word, out, at),
+            accepted: 1,
+        },
         Decoded::Refused(why, _, _) => Line {
             end: lines::refused_line(serial, refusals::number(why), out, at),
             accepted: 0,
         },
     }
-}
-
-// The line of a record with that word.
-pub fn record_line(
-    serial: u32,
-    profile: usize,
-    word: &[u8],
-    out: &mut [u8],
-    at: usize,
-    area: &mut [i32],
-) -> Line
-    requires { ⌜ Decodable profile (now word) (length (now word)) (length (now area)) × (at + 36 ≤ length (now out)) ⌝ }
-    ensures { λ line. ⌜ Lined (recordEntry serial profile (now (word .entry))) (now (out .entry)) at (now (out .exit)) line ⌝ }
-{
-    let n = word.len();
-    let numbers = 8 * n;
-    let mut decoded = [0u8; 256];
-    line_by(
-        serial,
-        profile,
-        word,
-        &mut decoded[0..n],
-        out,
-        at,
-        &mut area[0..numbers],
-    )
 }

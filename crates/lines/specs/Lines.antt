@@ -1,14 +1,16 @@
 -- The lines of the meter listing: document 01, "Captures and the meter listing". Text is a list of bytes. Assumes nothing.
 use Prim.Native.Nat.{ℕ}
+use mathlib.Core.Bool.{cond}
 use mathlib.Core.List.{List, [], _∷_, _++_}
 use lib.ListN.{replicate}
+use lib.Dec.{eqb}
 use Rattle.text.specs.Numbers.{tenDigits, decimal, hexOf}
 use Rattle.refusals.specs.declared.Refusal.the-variants.{Header}
 use Rattle.refusals.specs.Refusals.{numberOf}
 use Rattle.code.specs.Code.{messageOf}
-use Rattle.profiles.specs.Profiles.{profileOf}
+use Rattle.profiles.specs.declared.Profile.{Profile}
 use Rattle.rule.specs.Reading.{Outcome, accepted, refused}
-use Rattle.rule.specs.Decoding.{decodeProfileOf}
+use Rattle.rule.specs.Decoding.{decodeOf}
 
 abbrev pub newline : List ℕ
 newline = 10 ∷ []
@@ -28,17 +30,34 @@ refusedLine serial number = tenDigits serial ++ refusalText number ++ newline
 abbrev pub cutLine : List ℕ
 cutLine = replicate 10 45 ++ refusalText 16 ++ newline
 
+-- the lines that a reader of the listing sees: of a record, by its serial, its profile's number and entry, its word and what the decoder
+-- gives for it; and of a refusal of the capture reader, by its number and the serial
+pub record Lines : Type 0 where
+  pub ofRecord : ℕ → ℕ → Profile → List ℕ → Outcome → List ℕ
+  pub ofRefusal : ℕ → ℕ → List ℕ
+
+-- the meter listing's lines, of serial and message
+abbrev pub billingLine : ℕ → ℕ → Profile → List ℕ → Outcome → List ℕ
+billingLine serial number p word (accepted d k l) = acceptedLine serial (messageOf (p .m) (p .r) d)
+billingLine serial number p word (refused e k l) = refusedLine serial e
+
+abbrev pub billing : Lines
+billing = record { ofRecord = billingLine; ofRefusal = λ number serial. cond (eqb number 16) cutLine (refusedLine serial number) }
+
 -- a line, and 1 where its record was accepted
 pub data Entry : Type 0 where
   entry : List ℕ → ℕ → Entry
 
--- a record's line, by what the decoder gives under its profile
-abbrev pub entryFor : ℕ → ℕ → Outcome → Entry
-entryFor serial profile (accepted d k l) = entry (acceptedLine serial (messageOf (profileOf profile .m) (profileOf profile .r) d)) 1
-entryFor serial profile (refused e k l) = entry (refusedLine serial e) 0
+abbrev pub acceptedIn : Outcome → ℕ
+acceptedIn (accepted d k l) = 1
+acceptedIn (refused e k l) = 0
 
-unfoldable pub recordEntry : ℕ → ℕ → List ℕ → Entry
-recordEntry serial profile word = entryFor serial profile (decodeProfileOf profile word)
+-- a record's entry, by what the decoder gives under its profile p
+abbrev pub decodedBy : Profile → List ℕ → Outcome
+decodedBy p word = decodeOf (p .m) (p .r) (p .rounds) (p .leaves) word
+
+unfoldable pub recordEntry : Lines → ℕ → ℕ → Profile → List ℕ → Entry
+recordEntry reader serial number p word = entry (reader .ofRecord serial number p word (decodedBy p word)) (acceptedIn (decodedBy p word))
 
 -- "The last line counts lines as records, then those accepted."
 abbrev pub lastLine : ℕ → ℕ → List ℕ

@@ -1,10 +1,13 @@
-// The meter listing: a capture on standard input, its lines on standard output. Memory is bounded: the input is read, listed and its
-// lines are written a buffer at a time.
+// The meter listing: a capture on standard input, its lines on standard output, under document 01's table. Memory is bounded: the input is
+// read, listed and its lines are written a buffer at a time.
 ghost use mathlib.Core.Path.{_≡_};
 ghost use Prim.Native.Nat.{_≤_};
 ghost use lib.ListN.{length};
+ghost use Rattle.lines.specs.Lines.{billing};
+ghost use Rattle.meter_list.specs.Program.{Ran, Turned};
 use libc::STDIN_FILENO;
 use libc::STDOUT_FILENO;
+use tables::Table;
 use turns::State;
 use turns::filled;
 use turns::plus;
@@ -17,12 +20,12 @@ fn area() -> [i32; 2048]
 }
 
 // Lists what the buffer holds, moves the rest to its front, and writes the lines. A write that fails ends the listing.
-fn listed(s: State, buffer: &mut [u8], out: &mut [u8], area: &mut [i32]) -> State
+fn listed(table: Table, s: State, buffer: &mut [u8], out: &mut [u8], area: &mut [i32]) -> State
     requires { ⌜ s .held ≤ length (now buffer) ⌝ }
-    ensures { λ t. ⌜ t .held ≤ length (now (buffer .entry)) ⌝ }
+    ensures { λ t. ⌜ Turned table billing s t (now (buffer .entry)) (now (buffer .exit)) (now (out .entry)) (now (out .exit)) (now (area .entry)) (now (area .exit)) ⌝ }
 {
     let held = s.held;
-    let d = listing::list_held(&mut buffer[0..held], s.last, out, area);
+    let d = listing::list_held(table, &mut buffer[0..held], s.last, out, area);
     let n = d.written;
     let sent = io::write_all(STDOUT_FILENO, &out[0..n]);
     State {
@@ -35,7 +38,9 @@ fn listed(s: State, buffer: &mut [u8], out: &mut [u8], area: &mut [i32]) -> Stat
 }
 
 // A proved loop has to end, and nothing says that the input does: the turns are counted down from a number that no run uses up.
-fn list_all(buffer: &mut [u8], out: &mut [u8], area: &mut [i32]) -> State {
+fn list_all(table: Table, buffer: &mut [u8], out: &mut [u8], area: &mut [i32]) -> State
+    ensures { λ s. ⌜ Ran table billing s (now (buffer .exit)) ⌝ }
+{
     let mut s = State {
         held: 0,
         last: false,
@@ -46,7 +51,7 @@ fn list_all(buffer: &mut [u8], out: &mut [u8], area: &mut [i32]) -> State {
     let mut turns = u64::MAX;
     while turns > 0 && s.more {
         turns -= 1;
-        s = listed(filled(s, buffer), buffer, out, area);
+        s = listed(table, filled(s, buffer), buffer, out, area);
     }
     s
 }
@@ -62,7 +67,7 @@ fn main() {
     }
     let mut buffer = io::large_buffer();
     let mut numbers = area();
-    let s = list_all(&mut buffer, &mut out, &mut numbers);
+    let s = list_all(tables::ours(), &mut buffer, &mut out, &mut numbers);
     let n = notices::last_line(s.records, s.accepted, &mut out);
     io::write_all(STDOUT_FILENO, &out[..n]);
 }

@@ -1,18 +1,16 @@
 // The lines in which no word is decoded: of a wrong header, of a refusal of the capture reader, and the last.
-ghost use mathlib.Core.Bool.{cond};
 ghost use Prim.Native.Nat.{_+_, _≤_};
 ghost use lib.ListN.{length};
-ghost use lib.Dec.{eqb};
 ghost use Rattle.refusals.specs.Refusals.{numberOf};
 ghost use Rattle.text.specs.Texts.{Appended};
-ghost use Rattle.lines.specs.Lines.{cutLine, headerLine, lastLine, refusedLine};
+ghost use Rattle.lines.specs.Lines.{billing, headerLine, lastLine};
 ghost use Rattle.pieces.specs.Pieces.{Puts};
 use refusals::Refusal;
 
-// The line of a refusal of the capture reader: 16 has ten hyphens for the serial.
+// The meter listing's line of a refusal of the capture reader: 16 has ten hyphens for the serial.
 pub fn refusal_line(why: Refusal, serial: u32, out: &mut [u8], at: usize) -> usize
-    requires { ⌜ at + 36 ≤ length (now out) ⌝ }
-    ensures { λ end. ⌜ Appended (now (out .entry)) at (cond (eqb (numberOf why) 16) cutLine (refusedLine serial (numberOf why))) end (now (out .exit)) ⌝ }
+    requires { ⌜ at + 268 ≤ length (now out) ⌝ }
+    ensures { λ end. ⌜ Appended (now (out .entry)) at (billing .ofRefusal (numberOf why) serial) end (now (out .exit)) ⌝ }
 {
     let number = refusals::number(why);
     if number == 16 {

@@ -1,5 +1,5 @@
 -- Whether what stands at the start of a part can be listed. Assumes nothing.
-use Prim.Native.Nat.{ℕ, _+_, _≤_, _<_}
+use Prim.Native.Nat.{ℕ, _+_, _*_, _≤_, _<_}
 use native.Mathlib.Omega.{arith}
 use mathlib.Core.Path.{_≡_, sym, _∙_}
 use mathlib.Core.Bool.{Bool, true, false, false≢true}
@@ -7,29 +7,30 @@ use mathlib.Core.List.{List}
 use lib.Dec.{leb}
 use borrow.Author.Tests.{leb-true, leb-false}
 use lib.ListN.{length}
-use Rattle.capture.specs.Body.{bodyLength}
+use Rattle.tables.specs.declared.Slot.{Slot}
+use Rattle.capture.specs.Capture.{bodyLength}
 use Rattle.pieces.specs.Steps.{Readiness}
 
-module _ (part : List ℕ) (last : Bool) {room area : ℕ} where
-  pub no-room : room < 36 → Readiness part last room area false
+module _ (slot : Slot) (part : List ℕ) (last : Bool) {room area : ℕ} where
+  pub no-room : room < 268 → Readiness slot part last room area false
   no-room h = record {
     can = λ e. absurd (false≢true e);
     cannot = λ e. record { goes-on = λ a b. absurd (omega arith); short = λ a b. absurd (omega arith) };
   }
 
-  pub no-area : area < 2048 → Readiness part last room area false
+  pub no-area : area < 64 * bodyLength slot part → Readiness slot part last room area false
   no-area h = record {
     can = λ e. absurd (false≢true e);
     cannot = λ e. record { goes-on = λ a b. absurd (omega arith); short = λ a b. absurd (omega arith) };
   }
 
-  module _ (a : 36 ≤ room) (b : 2048 ≤ area) where
-    pub ready-last : last ≡ true → Readiness part last room area true
+  module _ (a : 268 ≤ room) (b : 64 * bodyLength slot part ≤ area) where
+    pub ready-last : last ≡ true → Readiness slot part last room area true
     ready-last e = record { can = λ z. record { line = a; lent = b; there = λ f. absurd (false≢true (sym f ∙ e)) }; cannot = λ z. absurd (false≢true (sym z)) }
 
     -- the input goes on: the record has to be there
-    pub ready-there : last ≡ false → bodyLength part ≤ 32 → Readiness part last room area (leb (5 + bodyLength part) (length part))
-    ready-there e few = record {
+    pub ready-there : last ≡ false → Readiness slot part last room area (leb (5 + bodyLength slot part) (length part))
+    ready-there e = record {
       can = λ z. record { line = a; lent = b; there = λ f. leb-true _ _ z };
-      cannot = λ z. let l : length part < 5 + bodyLength part = leb-false _ _ z in record { goes-on = λ x y. e; short = λ x y. omega arith };
+      cannot = λ z. record { goes-on = λ x y. e; short = λ x y. leb-false _ _ z };
     }

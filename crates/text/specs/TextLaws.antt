@@ -8,8 +8,8 @@ use mathlib.Core.Path.{_≡_, refl, sym, ap, _∙_, subst}
 use mathlib.Core.Bool.{cond}
 use mathlib.Core.List.{List, [], _∷_, _++_, append-assoc}
 use lib.Dec.{ltb}
-use lib.ListN.{length, getD, take, set, length-append, length-take, List·getD-append}
-use lib.Seq.{ext-getD, getD-take, getD-append-add, length-take-le, take-suc-set}
+use lib.ListN.{length, getD, take, drop, set, length-append, length-drop, length-take, List·getD-append}
+use lib.Seq.{drop-drop, drop-set-lt, ext-getD, getD-drop, getD-take, getD-append-add, length-take-le, take-suc-set}
 use borrow.Author.Tests.{lt-ltb, le-ltb}
 use Rattle.words.specs.Sum.{tabulate}
 use Rattle.words.specs.SumLaws.{length-tabulate, getD-tabulate}
@@ -21,13 +21,15 @@ use Rattle.text.specs.Texts.{Appended}
 
 -- one byte
 pub one-byte : (s : List ℕ) (at b : ℕ) → at < length s → Appended s at (b ∷ []) (at + 1) (set s at b)
-one-byte s at b h = record { ends = refl; holds = rw add-one (take-suc-set s at b h) }
+one-byte s at b h = record { ends = refl; holds = rw add-one (take-suc-set s at b h); past = drop-set-lt (at + 1) s at b (omega arith) }
 
 -- a run of bytes that a loop wrote
 pub a-run : {s s′ : List ℕ} {at n : ℕ} {f : ℕ → ℕ} → Written 0 at n f s s′ → at + n ≤ length s → Appended s at (tabulate n f) (at + n) s′
 a-run {s} {s′} {at} {n} {f} w h = record {
   ends = ap (λ (k : ℕ). at + k) (sym (length-tabulate n f));
   holds = ext-getD 0 (take (at + n) s′) (take at s ++ tabulate n f) (long ∙ sym long′) (λ i l. go i (omega (arith, long)));
+  past = ext-getD 0 (drop (at + n) s′) (drop (at + n) s) (omega (arith, length-drop (at + n) s′, length-drop (at + n) s, w .long))
+      (λ i l. getD-drop (at + n) s′ i 0 ∙ w .above (at + n + i) (omega arith) ∙ sym (getD-drop (at + n) s i 0));
 }
   where
     front : length (take at s) ≡ at
@@ -50,10 +52,16 @@ a-run {s} {s′} {at} {n} {f} w h = record {
       | no k ↦ subst (λ (j : ℕ). getD s′ j 0 ≡ getD (take at s ++ tabulate n f) j 0) (omega arith) (within (i - at) (omega arith))
     ]
 
+-- what follows a place follows a later one too
+pub past-further : (s s′ : List ℕ) (b k c : ℕ) → c ≡ b + k → drop b s′ ≡ drop b s → drop c s′ ≡ drop c s
+past-further s s′ b k c e h =
+    ap (λ (i : ℕ). drop i s′) e ∙ sym (drop-drop k b s′) ∙ ap (λ (l : List ℕ). drop k l) h ∙ drop-drop k b s ∙ ap (λ (i : ℕ). drop i s) (sym e)
+
 pub then-also : {s s′ s″ : List ℕ} {a b c : ℕ} {t u : List ℕ} → Appended s a t b s′ → Appended s′ b u c s″ → Appended s a (t ++ u) c s″
-then-also {s} {a = a} {t = t} {u} x y = record {
+then-also {s} {s′} {a = a} {b} {c} {t} {u} x y = record {
   ends = omega (arith, length-append t u, x .ends, y .ends);
   holds = y .holds ∙ ap (λ (l : List ℕ). l ++ u) (x .holds) ∙ append-assoc (take a s) t u;
+  past = y .past ∙ past-further s s′ b (length u) c (y .ends) (x .past);
 }
 
 -- a text put at a place of a buffer ends within it

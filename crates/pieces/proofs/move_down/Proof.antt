@@ -1,9 +1,9 @@
 -- `pieces::move_down` meets its contract: a byte is read before it is written over. Assumes nothing.
 use Prim.Native.Nat.{ℕ, _+_, _-_, _≤_}
 use native.Mathlib.Nat.{zero-add}
-use mathlib.Core.Path.{_≡_, refl, sym, _∙_}
-use mathlib.Core.List.{List}
-use lib.ListN.{length, drop, length-drop}
+use mathlib.Core.Path.{_≡_, refl, sym, ap, ap₂, _∙_}
+use mathlib.Core.List.{List, _++_}
+use lib.ListN.{length, drop, length-drop, take-append-drop}
 use lib.Seq.{getD-drop}
 use Rattle.words.specs.Word.{bit}
 use Rattle.words.specs.Sum.{tabulate}
@@ -60,8 +60,10 @@ returns : tie.Need-returns Inv-loop μ-loop
 returns c =
     let l = c .before .loop in
     let a = c .before .before .args in
-    let n : l .i ≡ length (a .s .now) - a .from = omega arith in
-    rw zero-add at (a-run (written-to (l .inv .3) (length (a .s .now) - a .from) n) (omega arith) .holds ∙ tail (a .s .now) (a .from) _ refl)
+    let n : ℕ = length (a .s .now) - a .from in
+    let e : l .i ≡ n = omega arith in
+    let r = a-run (written-to (l .inv .3) n e) (omega arith) in
+    sym (take-append-drop (0 + n) (l .s)) ∙ ap₂ (λ (u v : List ℕ). u ++ v) (r .holds ∙ tail (a .s .now) (a .from) n refl) (r .past ∙ ap (λ (k : ℕ). drop k (a .s .now)) (zero-add n))
 
 pub move-down-spec : {M : Type 1} → statement M
 move-down-spec =

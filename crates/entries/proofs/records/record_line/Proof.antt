@@ -1,43 +1,36 @@
--- `entries::records::record_line` meets its contract. Assumes nothing.
-use Prim.Native.Nat.{ℕ, _*_}
-use mathlib.Core.Path.{_∙_}
-use lib.ListN.{length, replicate}
-use Rattle.words.specs.Parts.{front-length}
-use Rattle.capture.specs.Cases.{sized}
-use borrow.Author.Needs.{needs}
+-- `entries::records::record_line` meets its contract: each answer of the decoder has its line. Assumes nothing.
 use native.Mathlib.Omega.{arith}
+use mathlib.Core.Path.{refl, sym, _∙_}
+use Rattle.text.specs.TextLaws.{decimal-length}
+use Rattle.lines.specs.Lines.{billing}
+use Rattle.lines.specs.LineLaws.{refused-length}
+use Rattle.entries.specs.RecordLaws.{decodes-accepted, decodes-area, accepted-is, refused-is}
+use borrow.Author.Needs.{needs}
 use Rattle.entries.proofs.records.record_line.Statement.{statement}
 use Rattle.entries.proofs.records.record_line.Tie as tie
 
-mul-numbers : tie.Need-mul-numbers
-mul-numbers c = search needs
+decode-requires : tie.Need-decode-requires
+decode-requires c κs = search needs
 
-sub-line-by : tie.Need-sub-line-by
-sub-line-by c = search needs
+enum-told : tie.Need-enum-told
+enum-told c = search needs
 
-part-decoded-start : tie.Need-part-decoded-start
-part-decoded-start c = search needs
+accepted-line-requires : tie.Need-accepted-line-requires
+accepted-line-requires c κs =
+    let s = c .before .before .before .before .before .before .before .before .before .before .before .before .before .before .before in
+    let w = decodes-accepted (s .args .p) (s .pre .0) (c .before .before .before .before .before .before .before .before .decode .ensures) (c .before .before .before .enum-told .given .1) in
+    (w, s .pre .0 .sizes .input .size ∙ sym (w .codeword .word .size), omega arith)
 
-part-decoded-end : tie.Need-part-decoded-end
-part-decoded-end c = omega (arith, sized (c .before .before .args .profile) (c .before .before .pre .0 .known) .most, c .before .before .pre .0 .sizes .output)
+enum-known-answer : tie.Need-enum-known-answer
+enum-known-answer c = search needs
 
-sub-line-by-2 : tie.Need-sub-line-by-2
-sub-line-by-2 c = search needs
+number-requires : tie.Need-number-requires
+number-requires c κs = search needs
 
-part-line-by-start : tie.Need-part-line-by-start
-part-line-by-start c = search needs
-
-part-line-by-end : tie.Need-part-line-by-end
-part-line-by-end c = search needs
-
-line-by-requires : tie.Need-line-by-requires
-line-by-requires c κs =
-    let s = c .before .before .before .before .before in
-    let h = s .pre .0 in
-    let n = length (s .args .word .now) in
-    let room = front-length n (replicate {A = ℕ} 256 0) (omega (arith, sized (s .args .profile) (h .known) .most, h .sizes .output)) in
-    let numbers = front-length (8 * n) (s .args .area .now) (omega (arith, h .sizes .output, h .sizes .lent)) in
-    (record { known = h .known; sizes = record { input = h .sizes .input; output = room ∙ h .sizes .output; lent = omega (arith, numbers, h .sizes .output) } }, omega arith)
+refused-line-requires : tie.Need-refused-line-requires
+refused-line-requires c κs =
+    let n = c .before .number .result in
+    omega (arith, refused-length (c .before .before .before .before .before .before .before .before .before .before .before .before .before .before .before .args .serial) n, decimal-length 2 n (omega arith))
 
 same-length : tie.Need-same-length
 same-length c = search needs
@@ -45,21 +38,61 @@ same-length c = search needs
 same-length-2 : tie.Need-same-length-2
 same-length-2 c = search needs
 
+same-length-3 : tie.Need-same-length-3
+same-length-3 c = search needs
+
+same-length-4 : tie.Need-same-length-4
+same-length-4 c = search needs
+
 returns : tie.Need-returns
-returns c = search needs
+returns c =
+    let s = c .before .before .before .before .before .before .before .before .before .before .before .before .before .before .before .before .before .before .before .before in
+    record {
+      lined = λ number.
+          rw (accepted-is (s .args .p) (s .pre .0) (c .before .before .before .before .before .before .before .before .before .before .before .before .before .decode .ensures) billing (s .args .serial) number (c .before .before .before .before .before .before .before .before .enum-told .given .1))
+          (record { text = c .before .before .before .before .accepted-line .ensures; counted = refl });
+      lent = decodes-area (s .args .p) (s .pre .0) (c .before .before .before .before .before .before .before .before .before .before .before .before .before .decode .ensures);
+    }
+
+same-length-5 : tie.Need-same-length-5
+same-length-5 c = search needs
+
+same-length-6 : tie.Need-same-length-6
+same-length-6 c = search needs
+
+same-length-7 : tie.Need-same-length-7
+same-length-7 c = search needs
+
+same-length-8 : tie.Need-same-length-8
+same-length-8 c = search needs
+
+returns-2 : tie.Need-returns-2
+returns-2 c =
+    let s = c .before .before .before .before .before .before .before .before .before .before .before .before .before .before .before .before .before .before in
+    record {
+      lined = λ number.
+          rw (refused-is (s .args .p) (s .pre .0) (c .before .before .before .before .before .before .before .before .before .before .before .decode .ensures) billing (s .args .serial) number (c .before .before .before .before .before .before .answer .given .1))
+          (record { text = rw (c .before .before .before .before .number .ensures) at (c .before .before .refused-line .ensures); counted = refl });
+      lent = decodes-area (s .args .p) (s .pre .0) (c .before .before .before .before .before .before .before .before .before .before .before .decode .ensures);
+    }
 
 pub record-line-spec : {M : Type 1} → statement M
 record-line-spec =
     tie.close
     (tie.spec
-    mul-numbers
-    sub-line-by
-    part-decoded-start
-    part-decoded-end
-    sub-line-by-2
-    part-line-by-start
-    part-line-by-end
-    line-by-requires
+    decode-requires
+    enum-told
+    accepted-line-requires
+    enum-known-answer
+    number-requires
+    refused-line-requires
     same-length
     same-length-2
-    returns)
+    same-length-3
+    same-length-4
+    returns
+    same-length-5
+    same-length-6
+    same-length-7
+    same-length-8
+    returns-2)

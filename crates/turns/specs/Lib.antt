@@ -1,0 +1,3 @@
+-- Definitions: Turns. TurnLaws has the laws.
+pub mod Turns
+pub mod TurnLaws
