@@ -30,6 +30,10 @@ addWords [] v = []
 addWords (a ∷ u) [] = []
 addWords (a ∷ u) (b ∷ v) = (a + b) % 2 ∷ addWords u v
 
+-- 1 where two words differ
+abbrev pub differs : List ℕ → List ℕ → ℕ → ℕ
+differs w v p = (bit w p + bit v p) % 2
+
 -- the number of places where two words of exponent m differ: the Hamming distance
 unfoldable pub distance : ℕ → List ℕ → List ℕ → ℕ
-distance m w v = sumBelow (2 ^ m) (λ p. (bit w p + bit v p) % 2)
+distance m w v = sumBelow (2 ^ m) (differs w v)

@@ -1,11 +1,11 @@
 // Words: their size, their bytes, and copies of them.
 ghost use mathlib.Core.Path.{_≡_};
-ghost use Prim.Native.Nat.{_^_, _≤_};
+ghost use Prim.Native.Nat.{ℕ, _^_, _≤_, _<_};
 ghost use lib.ListN.{length};
 ghost use lib.Dec.{ltb};
-ghost use Rattle.words.specs.Sum.{allBelow};
+ghost use Rattle.words.specs.Sum.{allBelow, sumBelow};
 ghost use Rattle.words.specs.Word;
-ghost use Rattle.words.specs.Word.{IsWord, lowestBad, bit};
+ghost use Rattle.words.specs.Word.{IsWord, differs, lowestBad, bit};
 
 // The number of places of a word of exponent m.
 pub fn size(m: usize) -> usize
@@ -53,8 +53,20 @@ pub fn copy(src: &[u8], dst: &mut [u8])
     }
 }
 
-// The number of places where two words differ.
-pub fn distance(m: usize, u: &[u8], v: &[u8]) -> usize
+// The places where two words of at most 128 places differ: their number fits a byte, so that sixteen are counted at once.
+fn distance_short(u: &[u8], v: &[u8]) -> u8
+    requires { ⌜ (length (now u) ≤ 128) × (length (now v) ≡ length (now u)) × ((p : ℕ) → bit (now u) p < 2) × ((p : ℕ) → bit (now v) p < 2) ⌝ }
+    ensures { λ d. ⌜ d ≡ sumBelow (length (now (u .entry))) (differs (now (u .entry)) (now (v .entry))) ⌝ }
+{
+    let mut d = 0u8;
+    for p in 0..u.len() {
+        d += u[p] ^ v[p];
+    }
+    d
+}
+
+// The places where two words of any size differ.
+fn distance_long(m: usize, u: &[u8], v: &[u8]) -> usize
     requires { ⌜ (m ≤ 10) × IsWord m (now u) × IsWord m (now v) ⌝ }
     ensures { λ d. ⌜ d ≡ Rattle.words.specs.Word.distance m (now (u .entry)) (now (v .entry)) ⌝ }
 {
@@ -64,4 +76,15 @@ pub fn distance(m: usize, u: &[u8], v: &[u8]) -> usize
         d += (u[p] ^ v[p]) as usize;
     }
     d
+}
+
+// The number of places where two words differ.
+pub fn distance(m: usize, u: &[u8], v: &[u8]) -> usize
+    requires { ⌜ (m ≤ 10) × IsWord m (now u) × IsWord m (now v) ⌝ }
+    ensures { λ d. ⌜ d ≡ Rattle.words.specs.Word.distance m (now (u .entry)) (now (v .entry)) ⌝ }
+{
+    if m < 8 {
+        return distance_short(u, v) as usize;
+    }
+    distance_long(m, u, v)
 }
