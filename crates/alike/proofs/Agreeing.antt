@@ -14,6 +14,10 @@ use Rattle.rule.specs.Calls.{Decodes}
 use Rattle.rule.specs.Demand3.{Agree, demand-3-call, demand-3-profile-call}
 use Rattle.alike.specs.Alike.{Differ, Fit, Alike}
 use Rattle.alike.specs.AlikeLaws.{sizes}
+use Rattle.tables.specs.declared.Table.{Table}
+use Rattle.tables.specs.Tables.{entryOf}
+use Rattle.table_decoder.specs.Table.{decodeTableCall}
+use Rattle.table_decoder.specs.TableLaws.{demand-3-table}
 
 module _ {w w′ out out′ v v′ : List ℕ} {area area′ xs xs′ : List ℤ} {a a′ : Decoded} where
   -- by their outcomes x and y
@@ -37,3 +41,10 @@ module _ {w w′ out out′ v v′ : List ℕ} {area area′ xs xs′ : List ℤ
       → Alike w w′ v v′ a a′
   profiles-alike number one two d f f′ =
       agreeing one two (demand-3-profile-call number w w′ (d .codeword) _ _ _ _ (sizes (d .first) f) (sizes (d .second) f′))
+
+  pub tables-alike : (t : Table) (number : ℕ) → Decodes (entryOf t number .m) (decodeTableCall t number w (length out) (length area)) w out v area xs a
+      → Decodes (entryOf t number .m) (decodeTableCall t number w′ (length out′) (length area′)) w′ out′ v′ area′ xs′ a′
+      → Differ (entryOf t number .m) (entryOf t number .r) w w′ → Fit (entryOf t number .m) out area → Fit (entryOf t number .m) out′ area′
+      → Alike w w′ v v′ a a′
+  tables-alike t number one two d f f′ =
+      agreeing one two (demand-3-table t number w w′ (d .codeword) _ _ _ _ (sizes (d .first) f) (sizes (d .second) f′))

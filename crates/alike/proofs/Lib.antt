@@ -1,2 +1,2 @@
--- What the proofs of both functions use.
+-- What the proofs of the functions use.
 mod Agreeing

@@ -2,29 +2,29 @@
 use Prim.Native.Nat.{ℕ}
 use native.Mathlib.Omega.{arith}
 use mathlib.Core.Path.{_≡_, refl, sym, ap, _∙_, subst}
-use mathlib.Core.List.{List, _++_}
-use lib.Dec.{leb}
-use borrow.Author.Tests.{le-leb, lt-leb, ne-eqb}
+use mathlib.Core.List.{List}
+use borrow.Author.Tests.{lt-leb, ne-eqb}
 use lib.ListN.{length}
 use lib.IntN.{ℤ}
 use Rattle.words.specs.Word.{IsWord}
 use Rattle.refusals.specs.declared.Refusal.{Refusal}
 use Rattle.refusals.specs.declared.Decoded.{Decoded}
 use Rattle.refusals.specs.declared.Decoded.the-variants as decoder
-use Rattle.refusals.specs.Refusals.{numberOf, codeChecks, firstRefusal}
-use Rattle.refusals.specs.CheckLaws.{IsCode, no-more, number-pos, passes}
+use Rattle.refusals.specs.Refusals.{numberOf, firstRefusal}
+use Rattle.refusals.specs.CheckLaws.{IsCode, number-pos}
 use Rattle.code.specs.Code.{IsCodeword, dimension}
 use Rattle.codec_checks.specs.Checks.{readChecks}
 use Rattle.profiles.specs.declared.Profile.{Profile}
 use Rattle.tables.specs.Limits.{InLimits}
 use Rattle.rule.specs.Reading.{Outcome, accepted, refused, reading}
 use Rattle.rule.specs.Counts.{Noise, reading-noise}
-use Rattle.rule.specs.Decoding.{values, after, answerOf, areaOf, decodeCall, decodeOf, limitChecks, outputOf, zeros}
+use Rattle.rule.specs.Decoding.{values, after, answerOf, areaOf, decodeCall, decodeOf, outputOf, zeros}
 use Rattle.rule.specs.DecodingLaws.{call-is, limited-cases}
 use Rattle.rule.specs.Demand3.{Sound, call-sound, decode-sound}
 use Rattle.rule.specs.Calls.{valuesOf, Decodes}
 use Rattle.lines.specs.Lines.{Lines, entry, Entry, acceptedIn, decodedBy, recordEntry}
 use Rattle.accepted.specs.MessageLines.{codeword-passes, dimension-most}
+use Rattle.table_decoder.specs.TableLaws.{entry-passes}
 use Rattle.accepted.specs.Accepted.{AcceptedWord}
 use Rattle.entries.specs.Decodable.{Decodable}
 
@@ -50,17 +50,7 @@ refused-outcome : (m : ℕ) (w : List ℕ) {k l : ℕ} (why : Refusal) (o : Outc
 refused-outcome m w why (accepted d i j) e = let z : numberOf why ≡ 0 = cc in absurd (omega (arith, number-pos why))
 refused-outcome m w why (refused n i j) e = cc
 
--- the code and the limits of an entry pass the checks, so that its word is read
-entry-passes : {p : Profile} → InLimits p → 0 ≡ firstRefusal (codeChecks (p .m) (p .r) ++ limitChecks (p .rounds) (p .leaves))
-entry-passes {p} l =
-    passes 1 (leb 1 (p .m)) _ (le-leb 1 (p .m) (omega (arith, l .some)))
-    (passes 1 (leb (p .m) 10) _ (le-leb (p .m) 10 (l .small))
-    (passes 2 (leb (p .r) (p .m)) _ (le-leb (p .r) (p .m) (l .order))
-    (passes 3 (leb 1 (p .rounds)) _ (le-leb 1 (p .rounds) (l .round))
-    (passes 3 (leb (p .rounds) 16) _ (le-leb (p .rounds) 16 (l .rounds))
-    (passes 4 (leb 1 (p .leaves)) _ (le-leb 1 (p .leaves) (l .leaf))
-    (passes 4 (leb (p .leaves) 1000000) _ (le-leb (p .leaves) 1000000 (l .leaves)) no-more))))))
-
+-- a word of an entry is read, so that the area is zero after it
 noise-area : (o : Outcome) (area : List ℤ) → Noise o → areaOf o area ≡ zeros area
 noise-area (accepted d k l) area h = refl
 noise-area (refused e k l) area h = rw (lt-leb e 8 (omega arith), ne-eqb e 14 (λ z. omega arith))

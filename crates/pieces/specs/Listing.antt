@@ -1,4 +1,4 @@
--- The whole listing for a reader, under a table: document 01, "Captures and the meter listing", and document 02, requests 4 and 7. Assumes
+-- The whole listing in a reader's lines, under a table: document 01, "Captures and the meter listing", and document 02, request 4. Assumes
 -- nothing.
 use Prim.Native.Nat.{ℕ, zero, suc, _+_}
 use mathlib.Core.Bool.{Bool, true, false, cond}

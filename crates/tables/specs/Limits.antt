@@ -1,11 +1,12 @@
 -- The limits of a table's entries, test by test, and the constant table. Assumes nothing.
 use Prim.Native.Nat.{ℕ, zero, suc, _≤_, _<_}
 use mathlib.Core.Path.{_≡_, refl}
-use mathlib.Core.Bool.{Bool, true, false, _&&_, false≢true}
+use mathlib.Core.Bool.{true, false}
 use native.Mathlib.Omega.{arith}
 use lib.Dec.{leb, ltb}
 use lib.ListN.{getD, replicate}
 use borrow.Author.Tests.{le-leb, lt-leb, le-ltb, leb-true, ltb-true}
+use Rattle.words.specs.SumLaws.{both-true}
 use Rattle.profiles.specs.declared.Profile.{Profile}
 use Rattle.profiles.specs.Profiles.{profileOf}
 use Rattle.tables.specs.declared.Table.{Table}
@@ -55,19 +56,15 @@ pub record InLimits (p : Profile) : Type 0 where
   pub leaf : 1 ≤ p .leaves
   pub leaves : p .leaves ≤ 1000000
 
-both : (a b : Bool) → a && b ≡ true → (a ≡ true) × (b ≡ true)
-both true b e = (refl, e)
-both false b e = absurd (false≢true e)
-
 pub in-limits : (p : Profile) → inLimits p ≡ true → InLimits p
 unfolding inLimits
 in-limits p e =
-    let (a, e1) = both (leb 3 (p .m)) _ e in
-    let (b, e2) = both (leb (p .m) 10) _ e1 in
-    let (c, e3) = both (leb (p .r) (p .m)) _ e2 in
-    let (d, e4) = both (leb 1 (p .rounds)) _ e3 in
-    let (f, e5) = both (leb (p .rounds) 16) _ e4 in
-    let (g, h) = both (leb 1 (p .leaves)) _ e5 in
+    let (a, e1) = both-true (leb 3 (p .m)) _ e in
+    let (b, e2) = both-true (leb (p .m) 10) _ e1 in
+    let (c, e3) = both-true (leb (p .r) (p .m)) _ e2 in
+    let (d, e4) = both-true (leb 1 (p .rounds)) _ e3 in
+    let (f, e5) = both-true (leb (p .rounds) 16) _ e4 in
+    let (g, h) = both-true (leb 1 (p .leaves)) _ e5 in
     record {
       some = leb-true 3 (p .m) a;
       small = leb-true (p .m) 10 b;
@@ -89,8 +86,8 @@ module _ (t : Table) (number : ℕ) where
   pub is-known : known t number ≡ true → Known
   unfolding known
   is-known e =
-      let (a, e1) = both (ltb number (t .count)) _ e in
-      let (b, e2) = both (leb number 31) _ e1 in
+      let (a, e1) = both-true (ltb number (t .count)) _ e in
+      let (b, e2) = both-true (leb number 31) _ e1 in
       record { below = ltb-true number (t .count) a; within = leb-true number 31 b; limits = in-limits (entryOf t number) e2 }
 
 -- ---- document 01's table as such a table

@@ -1,0 +1,3 @@
+-- Definitions: Table. TableLaws has the laws.
+pub mod Table
+pub mod TableLaws
