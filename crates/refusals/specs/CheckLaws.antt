@@ -13,7 +13,7 @@ use Rattle.words.specs.Word.{bit, lowestBad}
 use Rattle.words.specs.Search.{lowest-above, lowest-before}
 use Rattle.refusals.specs.Refusals.{Checked, numberOf, placeOf, answerNumber, answerPlace, placeNamed, Check, check, firstRefusal, codeChecks, allBits, byteChecks}
 use Rattle.refusals.specs.declared.Refusal.{Refusal}
-use Rattle.refusals.specs.declared.Refusal.the-variants.{Exponent, Order, RoundLimit, LeafLimit, InputLength, OutputLength, AreaLength, BadByte, Tie, Flipping, Unsettled, TooManyLeaves, NotCodeword, Profile, Header, Truncated}
+use Rattle.refusals.specs.declared.Refusal.the-variants.{Exponent, Order, RoundLimit, LeafLimit, InputLength, OutputLength, AreaLength, BadByte, Tie, Flipping, Unsettled, TooManyLeaves, NotCodeword, Profile, Header, Truncated, TableFile, TableEntry}
 use Rattle.refusals.specs.declared.Answer.{Answer}
 use Rattle.refusals.specs.declared.Answer.the-variants.{Done, Refused}
 
@@ -131,6 +131,8 @@ only-8 NotCodeword h = refl
 only-8 Profile h = refl
 only-8 Header h = refl
 only-8 Truncated h = refl
+only-8 TableFile h = refl
+only-8 (TableEntry i) h = refl
 
 pub number-pos : (why : Refusal) → 0 < numberOf why
 number-pos Exponent = omega arith
@@ -149,6 +151,8 @@ number-pos NotCodeword = omega arith
 number-pos Profile = omega arith
 number-pos Header = omega arith
 number-pos Truncated = omega arith
+number-pos TableFile = omega arith
+number-pos (TableEntry i) = omega arith
 
 -- an answer whose number is 0
 pub done-of : (a : Answer) → answerNumber a ≡ 0 → a ≡ Done

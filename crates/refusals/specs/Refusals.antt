@@ -8,7 +8,7 @@ use lib.Dec.{leb, ltb, eqb}
 use Rattle.words.specs.Sum.{allBelow}
 use Rattle.words.specs.Word.{bit, lowestBad}
 use Rattle.refusals.specs.declared.Refusal.{Refusal}
-use Rattle.refusals.specs.declared.Refusal.the-variants.{Exponent, Order, RoundLimit, LeafLimit, InputLength, OutputLength, AreaLength, BadByte, Tie, Flipping, Unsettled, TooManyLeaves, NotCodeword, Profile, Header, Truncated}
+use Rattle.refusals.specs.declared.Refusal.the-variants.{Exponent, Order, RoundLimit, LeafLimit, InputLength, OutputLength, AreaLength, BadByte, Tie, Flipping, Unsettled, TooManyLeaves, NotCodeword, Profile, Header, Truncated, TableFile, TableEntry}
 use Rattle.refusals.specs.declared.Answer.{Answer}
 use Rattle.refusals.specs.declared.Answer.the-variants.{Done, Refused}
 
@@ -30,6 +30,8 @@ numberOf NotCodeword = 13
 numberOf Profile = 14
 numberOf Header = 15
 numberOf Truncated = 16
+numberOf TableFile = 19
+numberOf (TableEntry i) = 20
 
 -- the place that a refusal names, 0 where it names none
 abbrev pub placeOf : Refusal → ℕ
@@ -49,6 +51,8 @@ placeOf NotCodeword = 0
 placeOf Profile = 0
 placeOf Header = 0
 placeOf Truncated = 0
+placeOf TableFile = 0
+placeOf (TableEntry i) = 0
 
 -- 0 where nothing is refused
 abbrev pub answerNumber : Answer → ℕ

@@ -2,7 +2,7 @@
 ghost use mathlib.Core.Path.{_≡_};
 ghost use Rattle.refusals.specs.Refusals.{numberOf, placeOf};
 
-// Document 01, "Refusals by who causes them", in the order of their numbers.
+// Document 01, "Refusals by who causes them", and those of document 02, in the order of their numbers.
 pub enum Refusal {
     Exponent,
     Order,
@@ -21,6 +21,9 @@ pub enum Refusal {
     Profile,
     Header,
     Truncated,
+    // 19, and 20 with the entry.
+    TableFile,
+    TableEntry(usize),
 }
 
 // What a call that gives nothing but its output answers.
@@ -56,6 +59,8 @@ pub fn number(why: Refusal) -> u8
         Refusal::Profile => 14,
         Refusal::Header => 15,
         Refusal::Truncated => 16,
+        Refusal::TableFile => 19,
+        Refusal::TableEntry(_) => 20,
     }
 }
 
@@ -80,5 +85,7 @@ pub fn place(why: Refusal) -> usize
         Refusal::Profile => 0,
         Refusal::Header => 0,
         Refusal::Truncated => 0,
+        Refusal::TableFile => 0,
+        Refusal::TableEntry(_) => 0,
     }
 }
