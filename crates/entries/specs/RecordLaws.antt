@@ -53,7 +53,7 @@ refused-outcome m w why (refused n i j) e = cc
 -- a word of an entry is read, so that the area is zero after it
 noise-area : (o : Outcome) (area : List ℤ) → Noise o → areaOf o area ≡ zeros area
 noise-area (accepted d k l) area h = refl
-noise-area (refused e k l) area h = rw (lt-leb e 8 (omega arith), ne-eqb e 14 (λ z. omega arith))
+noise-area (refused e k l) area h = rw (lt-leb e 8 (omega arith), ne-eqb e 14 (λ z. omega arith), ne-eqb e 18 (λ z. omega arith), ne-eqb e 27 (λ z. omega arith))
 
 decoded-area : {p : Profile} → InLimits p → (word : List ℕ) (area : List ℤ) → areaOf (decodedBy p word) area ≡ zeros area
 unfolding decodeOf after

@@ -3,17 +3,17 @@ use Prim.Native.Nat.{ℕ, zero, suc, _≤_, _<_}
 use native.Mathlib.Omega.{arith}
 use native.Mathlib.Decide.{decLt}
 use mathlib.Core.Path.{_≡_, refl, sym, ap, _∙_}
-use mathlib.Core.Bool.{Bool, true, false, not, _&&_, false≢true}
+use mathlib.Core.Bool.{Bool, true, false, not, _&&_, _||_, false≢true}
 use mathlib.Core.List.{List, [], _∷_, _++_}
 use lib.ListN.{length, List·getD-eq-default}
 use lib.Dec.{eqb}
-use borrow.Author.Tests.{le-leb, lt-leb, leb-true, eq-eqb, ne-eqb, ltb-true, lt-ltb, le-ltb}
+use borrow.Author.Tests.{not-true, le-leb, lt-leb, leb-true, eq-eqb, ne-eqb, ltb-true, lt-ltb, le-ltb}
 use Rattle.words.specs.SumLaws.{all-true, true-all, some-false, both-true}
 use Rattle.words.specs.Word.{bit, lowestBad}
 use Rattle.words.specs.Search.{lowest-above, lowest-before}
 use Rattle.refusals.specs.Refusals.{Checked, numberOf, placeOf, answerNumber, answerPlace, placeNamed, Check, check, firstRefusal, codeChecks, allBits, byteChecks}
 use Rattle.refusals.specs.declared.Refusal.{Refusal}
-use Rattle.refusals.specs.declared.Refusal.the-variants.{Exponent, Order, RoundLimit, LeafLimit, InputLength, OutputLength, AreaLength, BadByte, Tie, Flipping, Unsettled, TooManyLeaves, NotCodeword, Profile, Header, Truncated, TableFile, TableEntry}
+use Rattle.refusals.specs.declared.Refusal.the-variants.{Exponent, Order, RoundLimit, LeafLimit, InputLength, OutputLength, AreaLength, BadByte, Tie, Flipping, Unsettled, TooManyLeaves, NotCodeword, Profile, Header, Truncated, Erased, OutOfRange, TableFile, TableEntry, LoadStart, WrongPlaces, Meters, Retries, UnknownName, NamesFull, ArrayExponent, NotArray}
 use Rattle.refusals.specs.declared.Answer.{Answer}
 use Rattle.refusals.specs.declared.Answer.the-variants.{Done, Refused}
 
@@ -113,26 +113,42 @@ pub bad-place : (s : List ℕ) → placeNamed s 8 ≡ lowestBad s
 unfolding placeNamed
 bad-place s = refl
 
--- only 8 holds a place
-pub only-8 : (why : Refusal) → (numberOf why ≡ 8 → ⊥) → placeOf why ≡ 0
-only-8 Exponent h = refl
-only-8 Order h = refl
-only-8 RoundLimit h = refl
-only-8 LeafLimit h = refl
-only-8 InputLength h = refl
-only-8 OutputLength h = refl
-only-8 AreaLength h = refl
-only-8 (BadByte p) h = absurd (h refl)
-only-8 Tie h = refl
-only-8 Flipping h = refl
-only-8 Unsettled h = refl
-only-8 TooManyLeaves h = refl
-only-8 NotCodeword h = refl
-only-8 Profile h = refl
-only-8 Header h = refl
-only-8 Truncated h = refl
-only-8 TableFile h = refl
-only-8 (TableEntry i) h = refl
+-- the numbers of the refusals that hold a place
+abbrev pub holdsPlace : ℕ → Bool
+holdsPlace n = eqb n 8 || (eqb n 17 || (eqb n 18 || eqb n 20))
+
+not-8 : {n : ℕ} → holdsPlace n ≡ false → n ≡ 8 → ⊥
+not-8 h e = false≢true (sym h ∙ ap holdsPlace e)
+
+pub only-held : (why : Refusal) → holdsPlace (numberOf why) ≡ false → placeOf why ≡ 0
+only-held Exponent h = refl
+only-held Order h = refl
+only-held RoundLimit h = refl
+only-held LeafLimit h = refl
+only-held InputLength h = refl
+only-held OutputLength h = refl
+only-held AreaLength h = refl
+only-held (BadByte p) h = absurd (false≢true (sym h))
+only-held Tie h = refl
+only-held Flipping h = refl
+only-held Unsettled h = refl
+only-held TooManyLeaves h = refl
+only-held NotCodeword h = refl
+only-held Profile h = refl
+only-held Header h = refl
+only-held Truncated h = refl
+only-held (Erased p) h = absurd (false≢true (sym h))
+only-held (OutOfRange p) h = absurd (false≢true (sym h))
+only-held TableFile h = refl
+only-held (TableEntry i) h = absurd (false≢true (sym h))
+only-held LoadStart h = refl
+only-held WrongPlaces h = refl
+only-held Meters h = refl
+only-held Retries h = refl
+only-held UnknownName h = refl
+only-held NamesFull h = refl
+only-held ArrayExponent h = refl
+only-held NotArray h = refl
 
 pub number-pos : (why : Refusal) → 0 < numberOf why
 number-pos Exponent = omega arith
@@ -151,8 +167,18 @@ number-pos NotCodeword = omega arith
 number-pos Profile = omega arith
 number-pos Header = omega arith
 number-pos Truncated = omega arith
+number-pos (Erased p) = omega arith
+number-pos (OutOfRange p) = omega arith
 number-pos TableFile = omega arith
 number-pos (TableEntry i) = omega arith
+number-pos LoadStart = omega arith
+number-pos WrongPlaces = omega arith
+number-pos Meters = omega arith
+number-pos Retries = omega arith
+number-pos UnknownName = omega arith
+number-pos NamesFull = omega arith
+number-pos ArrayExponent = omega arith
+number-pos NotArray = omega arith
 
 -- an answer whose number is 0
 pub done-of : (a : Answer) → answerNumber a ≡ 0 → a ≡ Done
@@ -188,9 +214,9 @@ module _ (s : List ℕ) where
 pub all-pass : {cs : List Check} {s : List ℕ} → 0 ≡ firstRefusal cs → Checked cs s Done
 all-pass {cs} {s} e = record { number = e; place = rw (← e) (sym (other-place s 0 (λ z. omega arith))) }
 
--- a refusal other than 8
-pub refuses : {cs : List Check} {s : List ℕ} (why : Refusal) → (numberOf why ≡ 8 → ⊥) → numberOf why ≡ firstRefusal cs → Checked cs s (Refused why)
-refuses {cs} {s} why h e = record { number = e; place = rw (← e) (only-8 why h ∙ sym (other-place s (numberOf why) h)) }
+-- a refusal that names no place
+pub refuses : {cs : List Check} {s : List ℕ} (why : Refusal) → holdsPlace (numberOf why) ≡ false → numberOf why ≡ firstRefusal cs → Checked cs s (Refused why)
+refuses {cs} {s} why h e = record { number = e; place = rw (← e) (only-held why h ∙ sym (other-place s (numberOf why) (not-8 h))) }
 
 -- 8
 pub names : {s : List ℕ} {p : ℕ} → p ≡ lowestBad s → p < length s → Checked (byteChecks s) s (Refused (BadByte p))
@@ -204,16 +230,16 @@ next n ok {cs} {s} e c =
     let f : firstRefusal cs ≡ firstRefusal (check n ok ∷ cs) = passes n ok cs e refl in
     record { number = c .number ∙ f; place = c .place ∙ ap (placeNamed s) f }
 
--- no check has the number 8
+-- no check has the number of a refusal that names a place
 abbrev pub placeless : List Check → Bool
 placeless [] = true
-placeless (check n ok ∷ cs) = not (eqb n 8) && placeless cs
+placeless (check n ok ∷ cs) = not (holdsPlace n) && placeless cs
 
-placeless-number : (cs : List Check) → placeless cs ≡ true → firstRefusal cs ≡ 8 → ⊥
+placeless-number : (cs : List Check) → placeless cs ≡ true → holdsPlace (firstRefusal cs) ≡ false
 unfolding firstRefusal
-placeless-number [] h e = omega arith
-placeless-number (check n true ∷ cs) h e = placeless-number cs (both-true (not (eqb n 8)) (placeless cs) h .1) e
-placeless-number (check n false ∷ cs) h e = false≢true (ap not (sym (eq-eqb n 8 e)) ∙ both-true (not (eqb n 8)) (placeless cs) h .0)
+placeless-number [] h = refl
+placeless-number (check n true ∷ cs) h = placeless-number cs (both-true (not (holdsPlace n)) (placeless cs) h .1)
+placeless-number (check n false ∷ cs) h = not-true (holdsPlace n) (both-true (not (holdsPlace n)) (placeless cs) h .0)
 
 -- a refusal of the first group of checks, which names no place
 pub stops :
@@ -221,7 +247,7 @@ pub stops :
     → Checked (cs ++ ds) s (Refused why)
 stops {cs} ds s {a} {why} h c e =
     let n : numberOf why ≡ firstRefusal cs = ap answerNumber (sym e) ∙ c .number in
-    refuses why (λ z. placeless-number cs h (sym n ∙ z)) (already cs ds (number-pos why) n)
+    refuses why (ap holdsPlace n ∙ placeless-number cs h) (already cs ds (number-pos why) n)
 
 -- a refusal of any of the first group of checks, of the same input
 pub stops-at : {cs : List Check} (ds : List Check) {s : List ℕ} {a : Answer} {why : Refusal} → Checked cs s a → a ≡ Refused why → Checked (cs ++ ds) s (Refused why)

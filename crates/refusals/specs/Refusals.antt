@@ -8,7 +8,7 @@ use lib.Dec.{leb, ltb, eqb}
 use Rattle.words.specs.Sum.{allBelow}
 use Rattle.words.specs.Word.{bit, lowestBad}
 use Rattle.refusals.specs.declared.Refusal.{Refusal}
-use Rattle.refusals.specs.declared.Refusal.the-variants.{Exponent, Order, RoundLimit, LeafLimit, InputLength, OutputLength, AreaLength, BadByte, Tie, Flipping, Unsettled, TooManyLeaves, NotCodeword, Profile, Header, Truncated, TableFile, TableEntry}
+use Rattle.refusals.specs.declared.Refusal.the-variants.{Exponent, Order, RoundLimit, LeafLimit, InputLength, OutputLength, AreaLength, BadByte, Tie, Flipping, Unsettled, TooManyLeaves, NotCodeword, Profile, Header, Truncated, Erased, OutOfRange, TableFile, TableEntry, LoadStart, WrongPlaces, Meters, Retries, UnknownName, NamesFull, ArrayExponent, NotArray}
 use Rattle.refusals.specs.declared.Answer.{Answer}
 use Rattle.refusals.specs.declared.Answer.the-variants.{Done, Refused}
 
@@ -30,10 +30,20 @@ numberOf NotCodeword = 13
 numberOf Profile = 14
 numberOf Header = 15
 numberOf Truncated = 16
+numberOf (Erased p) = 17
+numberOf (OutOfRange p) = 18
 numberOf TableFile = 19
 numberOf (TableEntry i) = 20
+numberOf LoadStart = 21
+numberOf WrongPlaces = 22
+numberOf Meters = 23
+numberOf Retries = 24
+numberOf UnknownName = 25
+numberOf NamesFull = 26
+numberOf ArrayExponent = 27
+numberOf NotArray = 28
 
--- the place that a refusal names, 0 where it names none
+-- the place that a refusal names (20: the entry), 0 where it names none
 abbrev pub placeOf : Refusal → ℕ
 placeOf Exponent = 0
 placeOf Order = 0
@@ -51,8 +61,18 @@ placeOf NotCodeword = 0
 placeOf Profile = 0
 placeOf Header = 0
 placeOf Truncated = 0
+placeOf (Erased p) = p
+placeOf (OutOfRange p) = p
 placeOf TableFile = 0
-placeOf (TableEntry i) = 0
+placeOf (TableEntry i) = i
+placeOf LoadStart = 0
+placeOf WrongPlaces = 0
+placeOf Meters = 0
+placeOf Retries = 0
+placeOf UnknownName = 0
+placeOf NamesFull = 0
+placeOf ArrayExponent = 0
+placeOf NotArray = 0
 
 -- 0 where nothing is refused
 abbrev pub answerNumber : Answer → ℕ
@@ -68,9 +88,9 @@ answerPlace (Refused why) = placeOf why
 unfoldable pub placeNamed : List ℕ → ℕ → ℕ
 placeNamed s number = cond (eqb number 8) (lowestBad s) 0
 
--- "After refusals 1 to 8 and 14 the area is untouched."
+-- "After refusals 1 to 8 and 14 the area is untouched." Document 02: "untouched after 18", "After 27 the area is untouched".
 abbrev pub areaKept : ℕ → Bool
-areaKept number = leb number 8 || eqb number 14
+areaKept number = leb number 8 || (eqb number 14 || (eqb number 18 || eqb number 27))
 
 -- ---- checks, "in order of checking"
 

@@ -21,9 +21,24 @@ pub enum Refusal {
     Profile,
     Header,
     Truncated,
+    // 17 and 18: a place whose value is 0 at the end, and one that holds no confidence.
+    Erased(usize),
+    OutOfRange(usize),
     // 19, and 20 with the entry.
     TableFile,
     TableEntry(usize),
+    // 21 and 22: a load's state of 0, and more wrong places than the block has.
+    LoadStart,
+    WrongPlaces,
+    // 23 and 24: a street's meters and its retry limit.
+    Meters,
+    Retries,
+    // 25 and 26: tallies by name.
+    UnknownName,
+    NamesFull,
+    // 27 and 28: an array's exponent, and an array that ends with a row or column that is no codeword.
+    ArrayExponent,
+    NotArray,
 }
 
 // What a call that gives nothing but its output answers.
@@ -59,17 +74,30 @@ pub fn number(why: Refusal) -> u8
         Refusal::Profile => 14,
         Refusal::Header => 15,
         Refusal::Truncated => 16,
+        Refusal::Erased(_) => 17,
+        Refusal::OutOfRange(_) => 18,
         Refusal::TableFile => 19,
         Refusal::TableEntry(_) => 20,
+        Refusal::LoadStart => 21,
+        Refusal::WrongPlaces => 22,
+        Refusal::Meters => 23,
+        Refusal::Retries => 24,
+        Refusal::UnknownName => 25,
+        Refusal::NamesFull => 26,
+        Refusal::ArrayExponent => 27,
+        Refusal::NotArray => 28,
     }
 }
 
-// The place that a refusal names, 0 where it names none.
+// The place that a refusal names (20: the entry), 0 where it names none.
 pub fn place(why: Refusal) -> usize
     ensures { λ p. ⌜ p ≡ placeOf why ⌝ }
 {
     match why {
         Refusal::BadByte(p) => p,
+        Refusal::Erased(p) => p,
+        Refusal::OutOfRange(p) => p,
+        Refusal::TableEntry(i) => i,
         Refusal::Exponent => 0,
         Refusal::Order => 0,
         Refusal::RoundLimit => 0,
@@ -86,6 +114,13 @@ pub fn place(why: Refusal) -> usize
         Refusal::Header => 0,
         Refusal::Truncated => 0,
         Refusal::TableFile => 0,
-        Refusal::TableEntry(_) => 0,
+        Refusal::LoadStart => 0,
+        Refusal::WrongPlaces => 0,
+        Refusal::Meters => 0,
+        Refusal::Retries => 0,
+        Refusal::UnknownName => 0,
+        Refusal::NamesFull => 0,
+        Refusal::ArrayExponent => 0,
+        Refusal::NotArray => 0,
     }
 }

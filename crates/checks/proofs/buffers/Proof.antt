@@ -1,6 +1,6 @@
 -- `checks::buffers` meets its contract. Assumes nothing.
 use Prim.Native.Nat.{_*_, _^_, _≤_}
-use mathlib.Core.Path.{_≡_, sym, _∙_}
+use mathlib.Core.Path.{_≡_, sym, _∙_, refl}
 use native.Mathlib.Omega.{arith}
 use lib.ListN.{length}
 use lib.Pow.{pow-mono}
@@ -17,14 +17,14 @@ size-requires c κs = search needs
 returns : tie.Need-returns
 returns c =
     let s = c .before .before .before in
-    refuses InputLength (λ e. omega arith)
+    refuses InputLength refl
     (fails _ _ _ (ne-eqb (length (s .args .word .now)) (2 ^ s .args .m) (λ e. c .if1 .taken (e ∙ sym (c .before .size .ensures)))))
 
 returns-2 : tie.Need-returns-2
 returns-2 c =
     let s = c .before .before .before .before in
     let e : c .before .before .size .result ≡ 2 ^ s .args .m = c .before .before .size .ensures in
-    refuses OutputLength (λ e. omega arith)
+    refuses OutputLength refl
     (passes _ _ _ (eq-eqb (length (s .args .word .now)) (2 ^ s .args .m) (omega arith)) (fails _ _ _ (ne-eqb (s .args .room) (2 ^ s .args .m) (λ d. omega arith))))
 
 mul-if3 : tie.Need-mul-if3
@@ -37,7 +37,7 @@ returns-3 : tie.Need-returns-3
 returns-3 c =
     let s = c .before .before .before .before .before in
     let e : c .before .before .before .size .result ≡ 2 ^ s .args .m = c .before .before .before .size .ensures in
-    refuses AreaLength (λ e. omega arith)
+    refuses AreaLength refl
     (passes _ _ _ (eq-eqb (length (s .args .word .now)) (2 ^ s .args .m) (omega arith)) (passes _ _ _ (eq-eqb (s .args .room) (2 ^ s .args .m) (omega arith))
     (fails _ _ _ (lt-leb (8 * 2 ^ s .args .m) (s .args .area) (omega arith)))))
 

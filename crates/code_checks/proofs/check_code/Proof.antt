@@ -1,4 +1,5 @@
 -- `code_checks::check_code` meets its contract. Assumes nothing.
+use mathlib.Core.Path.{refl}
 use native.Mathlib.Omega.{arith}
 use borrow.Author.Tests.{le-leb}
 use Rattle.refusals.specs.declared.Refusal.the-variants.{Exponent, Order}
@@ -7,15 +8,15 @@ use Rattle.code_checks.proofs.check_code.Statement.{statement}
 use Rattle.code_checks.proofs.check_code.Tie as tie
 
 returns : tie.Need-returns
-returns c = refuses Exponent (λ e. omega arith) (exponent-low (c .before .args .m) (c .before .args .r) (omega arith))
+returns c = refuses Exponent refl (exponent-low (c .before .args .m) (c .before .args .r) (omega arith))
 
 returns-2 : tie.Need-returns-2
-returns-2 c = refuses Exponent (λ e. omega arith) (exponent-high (c .before .before .args .m) (c .before .before .args .r) (omega arith) (omega arith))
+returns-2 c = refuses Exponent refl (exponent-high (c .before .before .args .m) (c .before .before .args .r) (omega arith) (omega arith))
 
 returns-3 : tie.Need-returns-3
 returns-3 c =
     let a = c .before .before .before .args in
-    refuses Order (λ e. omega arith) (order-high (a .m) (a .r) (omega arith) (omega arith) (omega arith))
+    refuses Order refl (order-high (a .m) (a .r) (omega arith) (omega arith) (omega arith))
 
 returns-4 : tie.Need-returns-4
 returns-4 c =

@@ -82,7 +82,7 @@ returns-3 : tie.Need-returns-3
 returns-3 c =
     let k = c .before .before .before .before .before .before .before .before in
     let r = c .before .before .before .before .read-in .ensures in
-    call-refused _ _ (refuses NotCodeword (λ e. omega arith) (number-of k (fails 13 _ _ (sym (r .0) ∙ c .if1 .left)))) (r .1 ∙ rw (c .if1 .left))
+    call-refused _ _ (refuses NotCodeword refl (number-of k (fails 13 _ _ (sym (r .0) ∙ c .if1 .left)))) (r .1 ∙ rw (c .if1 .left))
 
 pub read-message-spec : {M : Type 1} → statement M
 read-message-spec =

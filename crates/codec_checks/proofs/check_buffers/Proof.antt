@@ -1,5 +1,5 @@
 -- `codec_checks::check_buffers` meets its contract. Assumes nothing.
-use mathlib.Core.Path.{sym}
+use mathlib.Core.Path.{sym, refl}
 use native.Mathlib.Omega.{arith}
 use borrow.Author.Needs.{needs}
 use borrow.Author.Tests.{eq-eqb, ne-eqb}
@@ -9,10 +9,10 @@ use Rattle.codec_checks.proofs.check_buffers.Statement.{statement}
 use Rattle.codec_checks.proofs.check_buffers.Tie as tie
 
 returns : tie.Need-returns
-returns c = refuses InputLength (λ e. omega arith) (fails 5 _ _ (ne-eqb _ _ (c .if1 .taken)))
+returns c = refuses InputLength refl (fails 5 _ _ (ne-eqb _ _ (c .if1 .taken)))
 
 returns-2 : tie.Need-returns-2
-returns-2 c = refuses OutputLength (λ e. omega arith) (passes 5 _ _ (eq-eqb _ _ (c .before .if1 .left)) (fails 6 _ _ (ne-eqb _ _ (c .if2 .taken))))
+returns-2 c = refuses OutputLength refl (passes 5 _ _ (eq-eqb _ _ (c .before .if1 .left)) (fails 6 _ _ (ne-eqb _ _ (c .if2 .taken))))
 
 check-bytes-requires : tie.Need-check-bytes-requires
 check-bytes-requires c κs = search needs

@@ -26,7 +26,7 @@ size-requires c κs = code-done (c .before .before .check-code .ensures) (c .enu
 returns-2 : tie.Need-returns-2
 returns-2 c =
     goes-on _ tt (c .before .before .before .before .check-code .ensures) (c .before .before .enum-told .given .1)
-    (refuses InputLength (λ e. omega arith) (fails 5 _ _ (ne-eqb _ _ (λ e. c .if1 .taken (e ∙ sym (c .before .size .ensures))))))
+    (refuses InputLength refl (fails 5 _ _ (ne-eqb _ _ (λ e. c .if1 .taken (e ∙ sym (c .before .size .ensures))))))
 
 check-bytes-requires : tie.Need-check-bytes-requires
 check-bytes-requires c κs = search needs

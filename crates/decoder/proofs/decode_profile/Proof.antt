@@ -16,7 +16,7 @@ within c = omega (arith, c .if1 .left)
 
 returns : tie.Need-returns
 unfolding decodeProfileCall
-returns c = checks-refused (refuses Profile (λ e. omega arith) (fails 14 _ _ (lt-leb _ 4 (c .if1 .taken)))) _ _ _ _ refl refl
+returns c = checks-refused (refuses Profile refl (fails 14 _ _ (lt-leb _ 4 (c .if1 .taken)))) _ _ _ _ refl refl
 
 by-number-requires : tie.Need-by-number-requires
 by-number-requires c κs = search needs

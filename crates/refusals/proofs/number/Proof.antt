@@ -59,6 +59,36 @@ enum-told-17 c = search needs
 enum-told-18 : tie.Need-enum-told-18
 enum-told-18 c = search needs
 
+enum-told-19 : tie.Need-enum-told-19
+enum-told-19 c = search needs
+
+enum-told-20 : tie.Need-enum-told-20
+enum-told-20 c = search needs
+
+enum-told-21 : tie.Need-enum-told-21
+enum-told-21 c = search needs
+
+enum-told-22 : tie.Need-enum-told-22
+enum-told-22 c = search needs
+
+enum-told-23 : tie.Need-enum-told-23
+enum-told-23 c = search needs
+
+enum-told-24 : tie.Need-enum-told-24
+enum-told-24 c = search needs
+
+enum-told-25 : tie.Need-enum-told-25
+enum-told-25 c = search needs
+
+enum-told-26 : tie.Need-enum-told-26
+enum-told-26 c = search needs
+
+enum-told-27 : tie.Need-enum-told-27
+enum-told-27 c = search needs
+
+enum-told-28 : tie.Need-enum-told-28
+enum-told-28 c = search needs
+
 returns : tie.Need-returns
 returns c = ap numberOf (sym (c .enum-told .given .1))
 
@@ -113,6 +143,36 @@ returns-17 c = ap numberOf (sym (c .enum-told17 .given .1))
 returns-18 : tie.Need-returns-18
 returns-18 c = ap numberOf (sym (c .enum-told18 .given .1))
 
+returns-19 : tie.Need-returns-19
+returns-19 c = ap numberOf (sym (c .enum-told19 .given .1))
+
+returns-20 : tie.Need-returns-20
+returns-20 c = ap numberOf (sym (c .enum-told20 .given .1))
+
+returns-21 : tie.Need-returns-21
+returns-21 c = ap numberOf (sym (c .enum-told21 .given .1))
+
+returns-22 : tie.Need-returns-22
+returns-22 c = ap numberOf (sym (c .enum-told22 .given .1))
+
+returns-23 : tie.Need-returns-23
+returns-23 c = ap numberOf (sym (c .enum-told23 .given .1))
+
+returns-24 : tie.Need-returns-24
+returns-24 c = ap numberOf (sym (c .enum-told24 .given .1))
+
+returns-25 : tie.Need-returns-25
+returns-25 c = ap numberOf (sym (c .enum-told25 .given .1))
+
+returns-26 : tie.Need-returns-26
+returns-26 c = ap numberOf (sym (c .enum-told26 .given .1))
+
+returns-27 : tie.Need-returns-27
+returns-27 c = ap numberOf (sym (c .enum-told27 .given .1))
+
+returns-28 : tie.Need-returns-28
+returns-28 c = ap numberOf (sym (c .enum-told28 .given .1))
+
 pub number-spec : {M : Type 1} → statement M
 number-spec =
     tie.close
@@ -135,6 +195,16 @@ number-spec =
     enum-told-16
     enum-told-17
     enum-told-18
+    enum-told-19
+    enum-told-20
+    enum-told-21
+    enum-told-22
+    enum-told-23
+    enum-told-24
+    enum-told-25
+    enum-told-26
+    enum-told-27
+    enum-told-28
     returns
     returns-2
     returns-3
@@ -152,4 +222,14 @@ number-spec =
     returns-15
     returns-16
     returns-17
-    returns-18)
+    returns-18
+    returns-19
+    returns-20
+    returns-21
+    returns-22
+    returns-23
+    returns-24
+    returns-25
+    returns-26
+    returns-27
+    returns-28)

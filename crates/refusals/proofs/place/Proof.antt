@@ -8,6 +8,15 @@ use Rattle.refusals.proofs.place.Tie as tie
 enum-known-why : tie.Need-enum-known-why
 enum-known-why c = search needs
 
+enum-known-why-2 : tie.Need-enum-known-why-2
+enum-known-why-2 c = search needs
+
+enum-known-why-3 : tie.Need-enum-known-why-3
+enum-known-why-3 c = search needs
+
+enum-known-why-4 : tie.Need-enum-known-why-4
+enum-known-why-4 c = search needs
+
 enum-told : tie.Need-enum-told
 enum-told c = search needs
 
@@ -59,65 +68,119 @@ enum-told-16 c = search needs
 enum-told-17 : tie.Need-enum-told-17
 enum-told-17 c = search needs
 
+enum-told-18 : tie.Need-enum-told-18
+enum-told-18 c = search needs
+
+enum-told-19 : tie.Need-enum-told-19
+enum-told-19 c = search needs
+
+enum-told-20 : tie.Need-enum-told-20
+enum-told-20 c = search needs
+
+enum-told-21 : tie.Need-enum-told-21
+enum-told-21 c = search needs
+
+enum-told-22 : tie.Need-enum-told-22
+enum-told-22 c = search needs
+
+enum-told-23 : tie.Need-enum-told-23
+enum-told-23 c = search needs
+
+enum-told-24 : tie.Need-enum-told-24
+enum-told-24 c = search needs
+
 returns : tie.Need-returns
 returns c = ap placeOf (sym (c .before .why .given .1))
 
 returns-2 : tie.Need-returns-2
-returns-2 c = ap placeOf (sym (c .enum-told .given .1))
+returns-2 c = ap placeOf (sym (c .before .why2 .given .1))
 
 returns-3 : tie.Need-returns-3
-returns-3 c = ap placeOf (sym (c .enum-told2 .given .1))
+returns-3 c = ap placeOf (sym (c .before .why3 .given .1))
 
 returns-4 : tie.Need-returns-4
-returns-4 c = ap placeOf (sym (c .enum-told3 .given .1))
+returns-4 c = ap placeOf (sym (c .before .why4 .given .1))
 
 returns-5 : tie.Need-returns-5
-returns-5 c = ap placeOf (sym (c .enum-told4 .given .1))
+returns-5 c = ap placeOf (sym (c .enum-told .given .1))
 
 returns-6 : tie.Need-returns-6
-returns-6 c = ap placeOf (sym (c .enum-told5 .given .1))
+returns-6 c = ap placeOf (sym (c .enum-told2 .given .1))
 
 returns-7 : tie.Need-returns-7
-returns-7 c = ap placeOf (sym (c .enum-told6 .given .1))
+returns-7 c = ap placeOf (sym (c .enum-told3 .given .1))
 
 returns-8 : tie.Need-returns-8
-returns-8 c = ap placeOf (sym (c .enum-told7 .given .1))
+returns-8 c = ap placeOf (sym (c .enum-told4 .given .1))
 
 returns-9 : tie.Need-returns-9
-returns-9 c = ap placeOf (sym (c .enum-told8 .given .1))
+returns-9 c = ap placeOf (sym (c .enum-told5 .given .1))
 
 returns-10 : tie.Need-returns-10
-returns-10 c = ap placeOf (sym (c .enum-told9 .given .1))
+returns-10 c = ap placeOf (sym (c .enum-told6 .given .1))
 
 returns-11 : tie.Need-returns-11
-returns-11 c = ap placeOf (sym (c .enum-told10 .given .1))
+returns-11 c = ap placeOf (sym (c .enum-told7 .given .1))
 
 returns-12 : tie.Need-returns-12
-returns-12 c = ap placeOf (sym (c .enum-told11 .given .1))
+returns-12 c = ap placeOf (sym (c .enum-told8 .given .1))
 
 returns-13 : tie.Need-returns-13
-returns-13 c = ap placeOf (sym (c .enum-told12 .given .1))
+returns-13 c = ap placeOf (sym (c .enum-told9 .given .1))
 
 returns-14 : tie.Need-returns-14
-returns-14 c = ap placeOf (sym (c .enum-told13 .given .1))
+returns-14 c = ap placeOf (sym (c .enum-told10 .given .1))
 
 returns-15 : tie.Need-returns-15
-returns-15 c = ap placeOf (sym (c .enum-told14 .given .1))
+returns-15 c = ap placeOf (sym (c .enum-told11 .given .1))
 
 returns-16 : tie.Need-returns-16
-returns-16 c = ap placeOf (sym (c .enum-told15 .given .1))
+returns-16 c = ap placeOf (sym (c .enum-told12 .given .1))
 
 returns-17 : tie.Need-returns-17
-returns-17 c = ap placeOf (sym (c .enum-told16 .given .1))
+returns-17 c = ap placeOf (sym (c .enum-told13 .given .1))
 
 returns-18 : tie.Need-returns-18
-returns-18 c = ap placeOf (sym (c .enum-told17 .given .1))
+returns-18 c = ap placeOf (sym (c .enum-told14 .given .1))
+
+returns-19 : tie.Need-returns-19
+returns-19 c = ap placeOf (sym (c .enum-told15 .given .1))
+
+returns-20 : tie.Need-returns-20
+returns-20 c = ap placeOf (sym (c .enum-told16 .given .1))
+
+returns-21 : tie.Need-returns-21
+returns-21 c = ap placeOf (sym (c .enum-told17 .given .1))
+
+returns-22 : tie.Need-returns-22
+returns-22 c = ap placeOf (sym (c .enum-told18 .given .1))
+
+returns-23 : tie.Need-returns-23
+returns-23 c = ap placeOf (sym (c .enum-told19 .given .1))
+
+returns-24 : tie.Need-returns-24
+returns-24 c = ap placeOf (sym (c .enum-told20 .given .1))
+
+returns-25 : tie.Need-returns-25
+returns-25 c = ap placeOf (sym (c .enum-told21 .given .1))
+
+returns-26 : tie.Need-returns-26
+returns-26 c = ap placeOf (sym (c .enum-told22 .given .1))
+
+returns-27 : tie.Need-returns-27
+returns-27 c = ap placeOf (sym (c .enum-told23 .given .1))
+
+returns-28 : tie.Need-returns-28
+returns-28 c = ap placeOf (sym (c .enum-told24 .given .1))
 
 pub place-spec : {M : Type 1} → statement M
 place-spec =
     tie.close
     (tie.spec
     enum-known-why
+    enum-known-why-2
+    enum-known-why-3
+    enum-known-why-4
     enum-told
     enum-told-2
     enum-told-3
@@ -135,6 +198,13 @@ place-spec =
     enum-told-15
     enum-told-16
     enum-told-17
+    enum-told-18
+    enum-told-19
+    enum-told-20
+    enum-told-21
+    enum-told-22
+    enum-told-23
+    enum-told-24
     returns
     returns-2
     returns-3
@@ -152,4 +222,14 @@ place-spec =
     returns-15
     returns-16
     returns-17
-    returns-18)
+    returns-18
+    returns-19
+    returns-20
+    returns-21
+    returns-22
+    returns-23
+    returns-24
+    returns-25
+    returns-26
+    returns-27
+    returns-28)
