@@ -15,6 +15,9 @@
  *   rm_decode            n, word      n        8 n or more
  *   rm_decode_profile    n, word      n        8 n or more
  *   rm_gap               n, word               8 n or more
+ *   rm_decode_table      n, word      n        8 n or more   n of the table's entry
+ *   rm_decode_made       n, word      n        8 n or more   n of the table's entry
+ *   rm_record            any          n                      n of the record's profile
  *
  *   profile     0     1     2     3     4
  *   m, r      5,1   6,2   7,2   8,2   8,3
@@ -22,7 +25,10 @@
  *   k           6    22    29    37    93
  *   8 n       256   512  1024  2048  2048
  *
- * The area may hold anything before a call. It is as it was after refusals 1 to 8 and 14, and all zero after every other answer.
+ * The area may hold anything before a call. It is as it was after refusals 1 to 8, 14, 19 and 20, and all zero after every other answer.
+ *
+ * A table file is the letters WMT, the bytes 0 and 1, a count of 1 to 32, and for each entry m (3 to 10), r (0 to m), rounds (1 to 16) in one
+ * byte each and the leaf limit (1 to 1,000,000) in four, senior byte first; nothing after the last. Entries are numbered from 0.
  */
 #ifndef FEZQALYR_HARNESS_H
 #define FEZQALYR_HARNESS_H
@@ -57,12 +63,15 @@ enum rm_refusals {
     RM_TIE = 9,             /* two codewords are equally near */
     RM_FLIPPING = 10,       /* places still flip at the round limit */
     RM_UNSETTLED = 11,      /* the block settled on no codeword */
-    RM_TOO_MANY_LEAVES = 12, /* the leaf limit is too small; no profile can meet it */
+    RM_TOO_MANY_LEAVES = 12, /* the leaf limit is too small; none of the five profiles can meet it */
     RM_NOT_CODEWORD = 13,   /* the message reader's word is none */
-    RM_PROFILE = 14,        /* above 4; tested first, in place of 1 to 4 */
-    /* in listings alone */
+    RM_PROFILE = 14,        /* above 4; of a table, not below its count, above 31, or an entry outside the limits; tested first, in place of 1 to 4 */
+    /* of whoever wrote the capture; 15 in listings alone */
     RM_HEADER = 15,
-    RM_TRUNCATED = 16
+    RM_TRUNCATED = 16,      /* the capture ends inside a record */
+    /* of whoever wrote the table file */
+    RM_TABLE_FILE = 19,     /* mark, version, count or length wrong */
+    RM_TABLE_ENTRY = 20     /* an entry outside the limits; the answer names the first */
 };
 
 /* An answer has five numbers, lowest first: refusal or 0 in 8 bits, rounds in 8, leaf count in 24, mended places in 12, place in 12. */
@@ -87,7 +96,8 @@ static inline unsigned rm_mended(uint64_t answer) {
     return (unsigned)(answer >> 40 & 4095);
 }
 
-/* With refusal 8, the lowest place of the input that holds a byte above 1 (an index of the message in rm_encode); 0 with any other answer. */
+/* With refusal 8, the lowest place of the input that holds a byte above 1 (an index of the message in rm_encode); with 20, the first entry
+ * outside the limits; 0 with any other answer. */
 static inline unsigned rm_place(uint64_t answer) {
     return (unsigned)(answer >> 52);
 }
@@ -107,6 +117,33 @@ uint64_t rm_decode_profile(size_t profile, const uint8_t *word, size_t word_len,
 /* The gap between the greatest and the second absolute correlation of a word at order 1, where the leaf count stands: 0 on a tie, n of a
  * codeword. If 4 x the number of changed places is less than the gap, the changed block gets the same codeword. Refused 1, 5, 7 or 8. */
 uint64_t rm_gap(size_t m, const uint8_t *word, size_t word_len, int32_t *area, size_t area_len);
+
+/* A block under entry `number` of the table in a file. Where the file is refused, 19, or 20 with the entry, and nothing is written. */
+uint64_t rm_decode_table(const uint8_t *file, size_t file_len, size_t number, const uint8_t *word, size_t word_len,
+                         uint8_t *out, size_t out_len, int32_t *area, size_t area_len);
+
+/* The same under a table that no file made: its count is as given, and all 32 entries are m, r, rounds, leaves, whatever these are. */
+uint64_t rm_decode_made(size_t count, size_t m, size_t r, size_t rounds, size_t leaves, size_t number,
+                        const uint8_t *word, size_t word_len, uint8_t *out, size_t out_len, int32_t *area, size_t area_len);
+
+/* The record at the start of `rest`, a capture from a record on, under the table in a file, or the five profiles where file_len is 0. Its
+ * answer has other numbers, below; only a record writes the word. Refused 19, 20 (without the entry), 16, 14 or 6. */
+uint64_t rm_record(const uint8_t *file, size_t file_len, const uint8_t *rest, size_t rest_len, uint8_t *word, size_t word_len);
+
+/* Of rm_record, beside rm_refusal: 1 where no record is left. */
+static inline unsigned rm_none_left(uint64_t answer) {
+    return (unsigned)(answer >> 8 & 255);
+}
+
+/* Of rm_record: a record's profile, else 0. */
+static inline unsigned rm_record_profile(uint64_t answer) {
+    return (unsigned)(answer >> 16 & 255);
+}
+
+/* Of rm_record: the serial, with a record, with 14 and with 6; else 0. */
+static inline uint32_t rm_record_serial(uint64_t answer) {
+    return (uint32_t)(answer >> 32);
+}
 
 #ifdef __cplusplus
 }

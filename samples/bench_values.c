@@ -1,4 +1,4 @@
-/* Document 01's meter bench values and some gaps, called from C: ends with 0 only where every one of them holds. It is C++ as well.
+/* Document 01's meter bench values, some gaps and a table, called from C: ends with 0 only where every one of them holds. It is C++ as well.
  *
  *   rt staticlib harness && cc -Iinclude samples/bench_values.c target/staticlib/libharness.a -o target/bench_values && target/bench_values
  */
@@ -147,6 +147,31 @@ static void gaps(void) {
     gap_is("the gap with one wrong place", 4, "1000000000000000", 12);
 }
 
+/* Document 02, request 4: a table of one entry, m 3, r 2, 4 rounds, leaf limit 6, and a record of it. */
+static void tables(void) {
+    uint8_t file[13] = {'W', 'M', 'T', 0, 1, 1, 3, 2, 4, 0, 0, 0, 6};
+    uint8_t rest[6] = {0x00, 0x3D, 0x09, 0x11, 0, 0x80};
+    uint8_t word[8];
+    uint64_t answer;
+    filled();
+    answer = rm_record(file, 13, rest, 6, word, 8);
+    expect(rm_refusal(answer) == 0 && rm_none_left(answer) == 0 && rm_record_profile(answer) == 0, "a record", "the answer");
+    expect(rm_record_serial(answer) == 4000017, "a record", "the serial");
+    expect(rm_none_left(rm_record(file, 13, rest + 6, 0, word, 8)) == 1, "no record", "the answer");
+    answer = rm_decode_table(file, 13, 0, word, 8, out, 8, area, 64);
+    expect(rm_refusal(answer) == RM_TOO_MANY_LEAVES && rm_leaves(answer) == 6 && area_is(0, 64), "the table", "12");
+    filled();
+    expect(rm_decode_table(file, 13, 1, word, 8, out, 8, area, 64) == RM_PROFILE, "the table", "14");
+    expect(rm_decode_table(file, 12, 0, word, 8, out, 8, area, 64) == RM_TABLE_FILE, "a cut file", "19");
+    file[6] = 2;
+    answer = rm_decode_table(file, 13, 0, word, 8, out, 8, area, 64);
+    expect(rm_refusal(answer) == RM_TABLE_ENTRY && rm_place(answer) == 0, "m 2", "20");
+    expect(rm_decode_made(200, 3, 2, 4, 7, 32, word, 8, out, 8, area, 64) == RM_PROFILE, "a made table", "14 above 31");
+    expect(output_is(NULL, 8) && area_is(5, 64), "the table", "the output or the area after 14, 19 and 20");
+    answer = rm_decode_made(200, 3, 2, 4, 7, 31, word, 8, out, 8, area, 64);
+    expect(rm_refusal(answer) == RM_UNSETTLED && rm_leaves(answer) == 7, "a made table", "11");
+}
+
 /* Each number of an answer by itself, and the place of a bad byte. */
 static void numbers(void) {
     uint64_t answer = (uint64_t)12 | (uint64_t)5 << 8 | (uint64_t)1000000 << 16 | (uint64_t)1024 << 40 | (uint64_t)1023 << 52;
@@ -164,6 +189,7 @@ int main(void) {
     order_2();
     example();
     gaps();
+    tables();
     numbers();
     if (failures == 0) puts("the bench values hold");
     return failures != 0;

@@ -7,6 +7,8 @@ ghost use Rattle.profiles.specs.Profiles.{profileOf};
 ghost use Rattle.rule.specs.Decoding.{decodeCall, decodeProfileCall};
 ghost use Rattle.packing.specs.Packing.{Returns, ReturnsDecoded, ReturnsGap, packTest};
 
+mod by_table;
+
 #[no_mangle]
 pub extern "C" fn rm_encode(m: usize, r: usize, message: &[u8], out: &mut [u8]) -> u64
     ensures { λ x. ⌜ Returns (encodeChecks m r (now (message .entry)) (length (now (out .entry)))) (codeword m r (now (message .entry))) (now (message .entry)) (now (out .entry)) (now (out .exit)) x ⌝ }

@@ -1,3 +1,5 @@
--- Definitions: Packing. PackingLaws has laws.
+-- Definitions: Packing, ByTable. PackingLaws and ByTableLaws have laws.
 pub mod Packing
 pub mod PackingLaws
+pub mod ByTable
+pub mod ByTableLaws

@@ -11,6 +11,8 @@ use gap::Measured;
 use refusals::Answer;
 use refusals::Decoded;
 
+pub mod by_table;
+
 fn pack(number: u8, rounds: usize, leaves: usize, mended: usize, place: usize) -> u64
     ensures { λ x. ⌜ x ≡ Rattle.packing.specs.Packing.pack number rounds leaves mended place ⌝ }
 {

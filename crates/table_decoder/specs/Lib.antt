@@ -1,3 +1,4 @@
--- Definitions: Table. TableLaws has the laws.
+-- Definitions: Table. The rest are laws.
 pub mod Table
 pub mod TableLaws
+pub mod Meets12

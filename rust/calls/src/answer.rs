@@ -1,6 +1,6 @@
 //! An answer and its 64 bits.
 
-/// Lowest first: refusal or 0 in 8 bits, rounds in 8, leaf count in 24, mended places in 12, the place of 8 in 12.
+/// Lowest first: refusal or 0 in 8 bits, rounds in 8, leaf count in 24, mended places in 12, the place of 8 or the entry of 20 in 12.
 #[derive(Clone, Copy, PartialEq, Eq, Debug, Default)]
 pub struct Answer {
     pub refusal: u8,
@@ -24,14 +24,38 @@ impl Answer {
     }
 }
 
+/// What the capture reader says. Lowest first: refusal or 0 in 8 bits, 1 where no record is left in 8, profile in 8, 0 in 8, serial in 32.
+#[derive(Clone, Copy, PartialEq, Eq, Debug, Default)]
+pub struct Found {
+    pub refusal: u8,
+    pub none_left: u8,
+    pub profile: u8,
+    pub unused: u8,
+    pub serial: u32,
+}
+
+impl Found {
+    #[inline]
+    pub fn unpacked(bits: u64) -> Found {
+        let [refusal, none_left, profile, unused, ..] = bits.to_le_bytes();
+        Found { refusal, none_left, profile, unused, serial: (bits >> 32) as u32 }
+    }
+}
+
 #[cfg(test)]
 mod tests {
-    use super::Answer;
+    use super::{Answer, Found};
 
     #[test]
     fn each_field_by_itself() {
         let bits = 12 | 5 << 8 | 1_000_000 << 16 | 1_024 << 40 | 1_023 << 52;
         let answer = Answer { refusal: 12, rounds: 5, leaves: 1_000_000, mended: 1_024, place: 1_023 };
         assert_eq!(Answer::unpacked(bits), answer);
+    }
+
+    #[test]
+    fn each_field_of_a_record() {
+        let found = Found { refusal: 6, none_left: 1, profile: 31, unused: 0, serial: 4_000_000_017 };
+        assert_eq!(Found::unpacked(6 | 1 << 8 | 31 << 16 | 4_000_000_017 << 32), found);
     }
 }

@@ -3,7 +3,7 @@
 
 mod answer;
 
-pub use answer::Answer;
+pub use answer::{Answer, Found};
 
 extern "C" {
     fn rm_encode(m: usize, r: usize, message: *const u8, message_len: usize, out: *mut u8, out_len: usize) -> u64;
@@ -31,6 +31,39 @@ extern "C" {
         area_len: usize,
     ) -> u64;
     fn rm_gap(m: usize, word: *const u8, word_len: usize, area: *mut i32, area_len: usize) -> u64;
+    fn rm_decode_table(
+        file: *const u8,
+        file_len: usize,
+        number: usize,
+        word: *const u8,
+        word_len: usize,
+        out: *mut u8,
+        out_len: usize,
+        area: *mut i32,
+        area_len: usize,
+    ) -> u64;
+    fn rm_decode_made(
+        count: usize,
+        m: usize,
+        r: usize,
+        rounds: usize,
+        leaves: usize,
+        number: usize,
+        word: *const u8,
+        word_len: usize,
+        out: *mut u8,
+        out_len: usize,
+        area: *mut i32,
+        area_len: usize,
+    ) -> u64;
+    fn rm_record(
+        file: *const u8,
+        file_len: usize,
+        rest: *const u8,
+        rest_len: usize,
+        word: *mut u8,
+        word_len: usize,
+    ) -> u64;
 }
 
 #[inline]
@@ -83,4 +116,43 @@ pub fn decode_profile(profile: usize, word: &[u8], out: &mut [u8], area: &mut [i
 pub fn gap(m: usize, word: &[u8], area: &mut [i32]) -> Answer {
     // SAFETY: as for `encode`.
     Answer::unpacked(unsafe { rm_gap(m, word.as_ptr(), word.len(), area.as_mut_ptr(), area.len()) })
+}
+
+/// Under an entry of the table of a file.
+#[inline]
+pub fn decode_table(file: &[u8], number: usize, word: &[u8], out: &mut [u8], area: &mut [i32]) -> Answer {
+    let (file, file_len) = (file.as_ptr(), file.len());
+    let (word, word_len) = (word.as_ptr(), word.len());
+    let (out, out_len) = (out.as_mut_ptr(), out.len());
+    let (area, area_len) = (area.as_mut_ptr(), area.len());
+    // SAFETY: as for `encode`.
+    Answer::unpacked(unsafe { rm_decode_table(file, file_len, number, word, word_len, out, out_len, area, area_len) })
+}
+
+/// Under a table of that count, all of whose 32 entries are m, r, rounds and leaves.
+#[inline]
+pub fn decode_made(
+    count: usize,
+    [m, r, rounds, leaves]: [usize; 4],
+    number: usize,
+    word: &[u8],
+    out: &mut [u8],
+    area: &mut [i32],
+) -> Answer {
+    let (word, word_len) = (word.as_ptr(), word.len());
+    let (out, out_len) = (out.as_mut_ptr(), out.len());
+    let (area, area_len) = (area.as_mut_ptr(), area.len());
+    // SAFETY: as for `encode`.
+    Answer::unpacked(unsafe {
+        rm_decode_made(count, m, r, rounds, leaves, number, word, word_len, out, out_len, area, area_len)
+    })
+}
+
+/// The record at the start of `rest`, under the table of a file, or document 01's where the file is empty.
+#[inline]
+pub fn record(file: &[u8], rest: &[u8], word: &mut [u8]) -> Found {
+    let (file, file_len) = (file.as_ptr(), file.len());
+    let (rest, rest_len) = (rest.as_ptr(), rest.len());
+    // SAFETY: as for `encode`.
+    Found::unpacked(unsafe { rm_record(file, file_len, rest, rest_len, word.as_mut_ptr(), word.len()) })
 }

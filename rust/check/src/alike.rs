@@ -9,9 +9,14 @@ use second::{code, profiles};
 /// A call with another word and a longer area.
 fn with_word(call: &Call, other: Vec<u8>) -> Call {
     let mut call = call.clone();
-    if let Call::Decode { word, area, .. } | Call::DecodeProfile { word, area, .. } = &mut call {
-        *word = other;
-        *area += 3;
+    match &mut call {
+        Call::Decode { word, area, .. }
+        | Call::DecodeProfile { word, area, .. }
+        | Call::DecodeTable { word, area, .. } => {
+            *word = other;
+            *area += 3;
+        }
+        _ => panic!("no decoding: {call}"),
     }
     call
 }

@@ -1,10 +1,11 @@
 //! A call with its arguments, and what it leaves behind.
 
-use crate::decoder::{Answer, Decoder};
+use crate::decoder::{Answer, Decoder, Tables};
 use crate::lent;
+use second::profiles::Profile;
 use std::fmt;
 
-/// `out` and `area` are lengths.
+/// `out` and `area` are lengths, and so is the word that a record is read into.
 #[derive(Clone, Debug)]
 pub enum Call {
     Encode { m: usize, r: usize, message: Vec<u8>, out: usize },
@@ -13,6 +14,9 @@ pub enum Call {
     Decode { m: usize, r: usize, rounds: usize, leaves: usize, word: Vec<u8>, out: usize, area: usize },
     DecodeProfile { profile: usize, word: Vec<u8>, out: usize, area: usize },
     Gap { m: usize, word: Vec<u8>, area: usize },
+    DecodeTable { file: Vec<u8>, number: usize, word: Vec<u8>, out: usize, area: usize },
+    DecodeMade { count: usize, entry: Profile, number: usize, word: Vec<u8>, out: usize, area: usize },
+    Record { file: Vec<u8>, rest: Vec<u8>, word: usize },
 }
 
 /// Answer, output and area after a call; a buffer is missing if something was written around it.
@@ -38,11 +42,29 @@ impl Call {
         Call::Gap { m, word: word.to_vec(), area: 8 << m }
     }
 
+    pub fn decode_table(file: &[u8], number: usize, word: &[u8]) -> Call {
+        Call::DecodeTable { file: file.to_vec(), number, word: word.to_vec(), out: word.len(), area: 8 * word.len() }
+    }
+
+    pub fn decode_made(count: usize, entry: Profile, number: usize, word: &[u8]) -> Call {
+        Call::DecodeMade { count, entry, number, word: word.to_vec(), out: word.len(), area: 8 * word.len() }
+    }
+
     pub fn input(&self) -> &[u8] {
         match self {
             Call::Encode { message, .. } => message,
             Call::ReadMessage { word, .. } | Call::IsCodeword { word, .. } => word,
             Call::Decode { word, .. } | Call::DecodeProfile { word, .. } | Call::Gap { word, .. } => word,
+            Call::DecodeTable { word, .. } | Call::DecodeMade { word, .. } => word,
+            Call::Record { rest, .. } => rest,
+        }
+    }
+
+    /// The table file of the call, empty where it has none.
+    fn file(&self) -> &[u8] {
+        match self {
+            Call::DecodeTable { file, .. } | Call::Record { file, .. } => file,
+            _ => &[],
         }
     }
 
@@ -53,12 +75,16 @@ impl Call {
             Call::IsCodeword { .. } => (0, 0),
             Call::Decode { out, area, .. } | Call::DecodeProfile { out, area, .. } => (*out, *area),
             Call::Gap { area, .. } => (0, *area),
+            Call::DecodeTable { out, area, .. } | Call::DecodeMade { out, area, .. } => (*out, *area),
+            Call::Record { word, .. } => (*word, 0),
         }
     }
 
     pub fn with_area(mut self, length: usize) -> Call {
-        if let Call::Decode { area, .. } | Call::DecodeProfile { area, .. } | Call::Gap { area, .. } = &mut self {
-            *area = length;
+        match &mut self {
+            Call::Decode { area, .. } | Call::DecodeProfile { area, .. } | Call::Gap { area, .. } => *area = length,
+            Call::DecodeTable { area, .. } | Call::DecodeMade { area, .. } => *area = length,
+            _ => {}
         }
         self
     }
@@ -67,13 +93,13 @@ impl Call {
     pub fn run(&self, decoder: &mut dyn Decoder) -> Effects {
         let (out_length, area_length) = self.lengths();
         let (mut out, mut area) = (lent::bytes(out_length), lent::numbers(area_length));
-        let input = self.input().to_vec();
-        let answer = self.made(decoder, &input, out.inside(), area.inside());
-        let input_kept = input == self.input();
+        let (input, file) = (self.input().to_vec(), self.file().to_vec());
+        let answer = self.made(decoder, &input, &file, out.inside(), area.inside());
+        let input_kept = input == self.input() && file == self.file();
         Effects { answer, out: out.taken_back(), area: area.taken_back(), input_kept }
     }
 
-    fn made(&self, decoder: &mut dyn Decoder, input: &[u8], out: &mut [u8], area: &mut [i32]) -> Answer {
+    fn made(&self, decoder: &mut dyn Decoder, input: &[u8], file: &[u8], out: &mut [u8], area: &mut [i32]) -> Answer {
         match self {
             Call::Encode { m, r, .. } => decoder.encode(*m, *r, input, out),
             Call::ReadMessage { m, r, .. } => decoder.read_message(*m, *r, input, out),
@@ -81,6 +107,24 @@ impl Call {
             Call::Decode { m, r, rounds, leaves, .. } => decoder.decode(*m, *r, *rounds, *leaves, input, out, area),
             Call::DecodeProfile { profile, .. } => decoder.decode_profile(*profile, input, out, area),
             Call::Gap { m, .. } => decoder.gap(*m, input, area),
+            _ => self.made_under_table(decoder.tables().expect("a decoder with tables"), input, file, out, area),
+        }
+    }
+
+    fn made_under_table(
+        &self,
+        tables: &mut dyn Tables,
+        input: &[u8],
+        file: &[u8],
+        out: &mut [u8],
+        area: &mut [i32],
+    ) -> Answer {
+        match self {
+            Call::DecodeTable { number, .. } => tables.decode_table(file, *number, input, out, area),
+            Call::DecodeMade { count, entry, number, .. } => {
+                tables.decode_made(*count, *entry, *number, input, out, area)
+            }
+            _ => tables.record(file, input, out),
         }
     }
 }
@@ -102,6 +146,11 @@ impl fmt::Display for Call {
             }
             Call::DecodeProfile { profile, .. } => write!(f, "decode_profile {profile}")?,
             Call::Gap { m, .. } => write!(f, "gap m {m}")?,
+            Call::DecodeTable { file, number, .. } => write!(f, "decode_table {file:02x?} number {number}")?,
+            Call::DecodeMade { count, entry, number, .. } => {
+                write!(f, "decode_made count {count} of {entry:?} number {number}")?
+            }
+            Call::Record { file, .. } => write!(f, "record {file:02x?}")?,
         }
         let (out, area) = self.lengths();
         let input = self.input();

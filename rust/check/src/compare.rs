@@ -15,7 +15,8 @@ impl fmt::Display for Disagreement {
     }
 }
 
-pub const REFUSALS: usize = 15;
+/// One more than the greatest number of an answer.
+pub const REFUSALS: usize = 21;
 
 /// A decoder beside the right second decoder.
 pub struct Comparison<'a> {

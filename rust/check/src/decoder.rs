@@ -1,6 +1,8 @@
-//! The calls that every decoder under comparison offers.
+//! The calls that every decoder under comparison offers, and those under tables, which some do.
 
-/// Refusal or 0, rounds, leaf count, mended places, and the place that 8 names.
+use second::profiles::Profile;
+
+/// Refusal or 0, rounds, leaf count, mended places, and the place that 8 names, or the entry that 20 does.
 #[derive(Clone, Copy, PartialEq, Eq, Debug, Default)]
 pub struct Answer {
     pub refusal: u64,
@@ -40,4 +42,28 @@ pub trait Decoder {
 
     /// The gap stands in the leaf count.
     fn gap(&mut self, m: usize, word: &[u8], area: &mut [i32]) -> Answer;
+
+    /// The calls under tables, where the decoder has them.
+    fn tables(&mut self) -> Option<&mut dyn Tables> {
+        None
+    }
+}
+
+/// Document 02, request 4.
+pub trait Tables {
+    fn decode_table(&mut self, file: &[u8], number: usize, word: &[u8], out: &mut [u8], area: &mut [i32]) -> Answer;
+
+    /// Under a table that no load made: its count, and the one entry that all 32 are.
+    fn decode_made(
+        &mut self,
+        count: usize,
+        entry: Profile,
+        number: usize,
+        word: &[u8],
+        out: &mut [u8],
+        area: &mut [i32],
+    ) -> Answer;
+
+    /// 1 in the rounds where no record is left, the serial in the leaf count, the profile in the place.
+    fn record(&mut self, file: &[u8], rest: &[u8], word: &mut [u8]) -> Answer;
 }

@@ -14,7 +14,8 @@ mod lent;
 pub mod plan;
 pub mod random;
 mod small;
+pub mod tables;
 pub mod values;
 
 pub use compare::{Comparison, Disagreement};
-pub use decoder::{Answer, Decoder};
+pub use decoder::{Answer, Decoder, Tables};

@@ -1,7 +1,7 @@
 //! What the comparison goes through.
 
 use crate::compare::{Comparison, Disagreement};
-use crate::{alike, bad_calls, blocks, code_calls, gaps, guarantee, small, values};
+use crate::{alike, bad_calls, blocks, code_calls, gaps, guarantee, small, tables, values};
 
 /// Few calls that still show every fault.
 pub fn directed(c: &mut Comparison) -> Result<(), Disagreement> {
@@ -17,6 +17,9 @@ pub fn directed(c: &mut Comparison) -> Result<(), Disagreement> {
     gaps::every(c, 2)?;
     gaps::bad(c, 94, 400)?;
     gaps::sampled(c, 95, 4, 10)?;
+    tables::files(c, 96, 100)?;
+    tables::made(c, 97)?;
+    tables::records(c, 98, 2)?;
     blocks::by_profile(c, 91, 0, 10)?;
     blocks::by_profile(c, 92, 1, 10)
 }
@@ -24,7 +27,7 @@ pub fn directed(c: &mut Comparison) -> Result<(), Disagreement> {
 pub type Part = (&'static str, fn(&mut Comparison) -> Result<(), Disagreement>);
 
 /// The whole comparison by parts.
-pub const WHOLE: [Part; 12] = [
+pub const WHOLE: [Part; 13] = [
     ("known values", values::all),
     ("every word to m 4", every_small_word),
     ("encoder, message reader, codeword test", every_code_call),
@@ -37,6 +40,7 @@ pub const WHOLE: [Part; 12] = [
     ("pairs that differ by a codeword", every_pair),
     ("the gap", every_gap),
     ("blocks that are surely mended", every_mended),
+    ("tables of the customer's own", every_table),
 ];
 
 fn every_small_word(c: &mut Comparison) -> Result<(), Disagreement> {
@@ -142,4 +146,10 @@ fn every_mended(c: &mut Comparison) -> Result<(), Disagreement> {
         }
     }
     Ok(())
+}
+
+fn every_table(c: &mut Comparison) -> Result<(), Disagreement> {
+    tables::files(c, 2_000, 3_000)?;
+    tables::made(c, 2_001)?;
+    tables::records(c, 2_002, 32)
 }

@@ -73,6 +73,13 @@ noticed! {
     second_is_smaller: SecondIsSmaller,
     signed_correlations: SignedCorrelations,
     gap_area_not_cleared: GapAreaNotCleared,
+    last_entry_named: LastEntryNamed,
+    entries_first: EntriesFirst,
+    junior_byte_first: JuniorByteFirst,
+    exponent_two: ExponentTwo,
+    entry_above_31: EntryAbove31,
+    area_cleared_after_load: AreaClearedAfterLoad,
+    bits_before_14: BitsBefore14,
 }
 
 /// This one renumbers cosets in projection and vote alike, which no answer shows; the tests of `second` see it.

@@ -2,6 +2,7 @@
 
 use check::blocks::noisy;
 use check::random::Random;
+pub use check::tables::record;
 use second::profiles;
 use std::io::{Read, Write};
 use std::path::PathBuf;
@@ -42,16 +43,6 @@ pub fn listed(capture: &[u8]) -> String {
     listed_in_pieces(capture, 1 << 16)
 }
 
-/// A record of a word, its bits packed.
-pub fn record(serial: u32, profile: usize, word: &[u8]) -> Vec<u8> {
-    let mut bytes = serial.to_be_bytes().to_vec();
-    bytes.push(profile as u8);
-    for eight in word.chunks(8) {
-        bytes.push(eight.iter().fold(0, |byte, bit| byte << 1 | bit));
-    }
-    bytes
-}
-
 /// A capture of so many records of one profile, noise from none to half the places.
 pub fn capture(seed: u64, profile: usize, records: usize) -> Vec<u8> {
     let mut random = Random::new(seed);
@@ -60,7 +51,7 @@ pub fn capture(seed: u64, profile: usize, records: usize) -> Vec<u8> {
     for i in 0..records {
         let wrong = (i << (p.m - 1)) / records;
         let word = noisy(&mut random, p.m, p.r, wrong);
-        bytes.extend(record(random.below(1 << 32) as u32, profile, &word));
+        bytes.extend(record(random.below(1 << 32) as u32, profile as u8, &word));
     }
     bytes
 }

@@ -7,9 +7,10 @@ use crate::checks::{
 use crate::code;
 use crate::gap;
 use crate::leaves::{AboveLimit, Leaves};
-use crate::profiles;
+use crate::profiles::{self, Profile};
 use crate::reading::{Failure, Lists, Reader};
 use crate::steps;
+use crate::table::{self, Found, Table};
 use crate::Fault;
 
 /// The second encoder and decoder, right or made wrong.
@@ -93,7 +94,48 @@ impl Second {
     }
 
     pub fn decode_profile(&mut self, number: usize, word: &[u8], out: &mut [u8], area: &mut [i32]) -> Answer {
-        match profiles::profile(number) {
+        self.decode_under(profiles::profile(number), word, out, area)
+    }
+
+    /// Under an entry of the table of a file.
+    pub fn decode_table(
+        &mut self,
+        file: &[u8],
+        number: usize,
+        word: &[u8],
+        out: &mut [u8],
+        area: &mut [i32],
+    ) -> Answer {
+        match Table::load(file, self.fault) {
+            Ok(table) => self.decode_entry(&table, number, word, out, area),
+            Err(answer) => {
+                if self.fault == Fault::AreaClearedAfterLoad {
+                    area.fill(0);
+                }
+                answer
+            }
+        }
+    }
+
+    /// Under an entry of any table.
+    pub fn decode_entry(
+        &mut self,
+        table: &Table,
+        number: usize,
+        word: &[u8],
+        out: &mut [u8],
+        area: &mut [i32],
+    ) -> Answer {
+        self.decode_under(table.entry(number, self.fault), word, out, area)
+    }
+
+    pub fn record(&self, file: &[u8], rest: &[u8], word: &mut [u8]) -> Found {
+        table::record(file, rest, word, self.fault)
+    }
+
+    /// By profile: 14 where there is none, in the place of 1 to 4.
+    fn decode_under(&mut self, profile: Option<Profile>, word: &[u8], out: &mut [u8], area: &mut [i32]) -> Answer {
+        match profile {
             None => Answer::refused(14),
             Some(p) => {
                 let limits = Limits { rounds: p.rounds, leaves: p.leaves };

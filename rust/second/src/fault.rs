@@ -87,10 +87,24 @@ pub enum Fault {
     SignedCorrelations,
     /// The area keeps what was in it after a gap.
     GapAreaNotCleared,
+    /// 20 names the last entry outside the limits.
+    LastEntryNamed,
+    /// 20 is tested before 19.
+    EntriesFirst,
+    /// A leaf limit in a table file has its junior byte first.
+    JuniorByteFirst,
+    /// An entry's m may be 2.
+    ExponentTwo,
+    /// A number above 31 but below the count finds the entry 32 lower.
+    EntryAbove31,
+    /// The area is cleared after 19 and 20.
+    AreaClearedAfterLoad,
+    /// A record without bits is refused 16 before its profile is tested.
+    BitsBefore14,
 }
 
 impl Fault {
-    pub const ALL: [Fault; 43] = [
+    pub const ALL: [Fault; 50] = [
         Fault::LowerMask,
         Fault::FlipsDuringRound,
         Fault::AbstainerVotesZeros,
@@ -134,6 +148,13 @@ impl Fault {
         Fault::SecondIsSmaller,
         Fault::SignedCorrelations,
         Fault::GapAreaNotCleared,
+        Fault::LastEntryNamed,
+        Fault::EntriesFirst,
+        Fault::JuniorByteFirst,
+        Fault::ExponentTwo,
+        Fault::EntryAbove31,
+        Fault::AreaClearedAfterLoad,
+        Fault::BitsBefore14,
     ];
 
     /// Whether the fault is one of the codeword test's steps.

@@ -63,10 +63,20 @@ fn by_threads(name: &str) -> Result<Met, Disagreement> {
     })
 }
 
+/// Whether the plan meets this answer: 16, 19 and 20 are those of tables and records, and 15 is the listing's.
+fn due(number: usize, tables: bool) -> bool {
+    match number {
+        0..=14 => true,
+        16 | 19 | 20 => tables,
+        _ => false,
+    }
+}
+
 fn whole(name: &str) -> Result<(), Disagreement> {
     println!("{name} against the second decoder");
     let met = by_threads(name)?;
-    for (number, times) in met.answers.iter().enumerate() {
+    let tables = decoder(name).tables().is_some();
+    for (number, times) in met.answers.iter().enumerate().filter(|(number, _)| due(*number, tables)) {
         println!("  answer {number:2}: {times}");
     }
     println!(
@@ -75,9 +85,9 @@ fn whole(name: &str) -> Result<(), Disagreement> {
         met.pairs,
         met.mended
     );
-    match (0..REFUSALS).filter(|number| met.answers[*number] == 0).collect::<Vec<usize>>() {
+    match (0..REFUSALS).filter(|number| (met.answers[*number] > 0) != due(*number, tables)).collect::<Vec<usize>>() {
         none if none.is_empty() => Ok(()),
-        missing => Err(Disagreement(format!("answers never met: {missing:?}"))),
+        wrong => Err(Disagreement(format!("answers that were to be met and were not, or the other way: {wrong:?}"))),
     }
 }
 

@@ -1,6 +1,8 @@
 //! The second decoder, right or with a fault.
 
-use crate::decoder::{Answer, Decoder};
+use crate::decoder::{Answer, Decoder, Tables};
+use second::profiles::Profile;
+use second::table::Table;
 use second::{Fault, Second};
 
 pub struct Faulty(Second);
@@ -53,5 +55,34 @@ impl Decoder for Faulty {
 
     fn gap(&mut self, m: usize, word: &[u8], area: &mut [i32]) -> Answer {
         answer(self.0.gap(m, word, area))
+    }
+
+    fn tables(&mut self) -> Option<&mut dyn Tables> {
+        Some(self)
+    }
+}
+
+impl Tables for Faulty {
+    fn decode_table(&mut self, file: &[u8], number: usize, word: &[u8], out: &mut [u8], area: &mut [i32]) -> Answer {
+        answer(self.0.decode_table(file, number, word, out, area))
+    }
+
+    fn decode_made(
+        &mut self,
+        count: usize,
+        entry: Profile,
+        number: usize,
+        word: &[u8],
+        out: &mut [u8],
+        area: &mut [i32],
+    ) -> Answer {
+        let table = Table { count, entries: [entry; 32] };
+        answer(self.0.decode_entry(&table, number, word, out, area))
+    }
+
+    fn record(&mut self, file: &[u8], rest: &[u8], word: &mut [u8]) -> Answer {
+        let found = self.0.record(file, rest, word);
+        let numbers = Answer::numbers(found.refusal as u64, found.none_left as u64, found.serial as u64);
+        Answer { place: found.profile as u64, ..numbers }
     }
 }

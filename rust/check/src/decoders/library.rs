@@ -1,6 +1,7 @@
 //! The proved library, through its C exports.
 
-use crate::decoder::{Answer, Decoder};
+use crate::decoder::{Answer, Decoder, Tables};
+use second::profiles::Profile;
 
 pub struct Library;
 
@@ -41,5 +42,35 @@ impl Decoder for Library {
 
     fn gap(&mut self, m: usize, word: &[u8], area: &mut [i32]) -> Answer {
         answer(calls::gap(m, word, area))
+    }
+
+    fn tables(&mut self) -> Option<&mut dyn Tables> {
+        Some(self)
+    }
+}
+
+impl Tables for Library {
+    fn decode_table(&mut self, file: &[u8], number: usize, word: &[u8], out: &mut [u8], area: &mut [i32]) -> Answer {
+        answer(calls::decode_table(file, number, word, out, area))
+    }
+
+    fn decode_made(
+        &mut self,
+        count: usize,
+        entry: Profile,
+        number: usize,
+        word: &[u8],
+        out: &mut [u8],
+        area: &mut [i32],
+    ) -> Answer {
+        let Profile { m, r, rounds, leaves } = entry;
+        answer(calls::decode_made(count, [m, r, rounds, leaves], number, word, out, area))
+    }
+
+    fn record(&mut self, file: &[u8], rest: &[u8], word: &mut [u8]) -> Answer {
+        let found = calls::record(file, rest, word);
+        let numbers = Answer::numbers(found.refusal as u64, found.none_left as u64, found.serial as u64);
+        // a bit that must be 0 would show as a place mended
+        Answer { place: found.profile as u64, mended: found.unused as u64, ..numbers }
     }
 }
