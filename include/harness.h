@@ -71,7 +71,10 @@ enum rm_refusals {
     RM_TRUNCATED = 16,      /* the capture ends inside a record */
     /* of whoever wrote the table file */
     RM_TABLE_FILE = 19,     /* mark, version, count or length wrong */
-    RM_TABLE_ENTRY = 20     /* an entry outside the limits; the answer names the first */
+    RM_TABLE_ENTRY = 20,    /* an entry outside the limits; the answer names the first */
+    /* in rm_tallies alone */
+    RM_UNKNOWN_NAME = 25,   /* no tally has that name, when returning or dropping */
+    RM_NAMES_FULL = 26      /* sixteen other names are held, when saving */
 };
 
 /* An answer has five numbers, lowest first: refusal or 0 in 8 bits, rounds in 8, leaf count in 24, mended places in 12, place in 12. */
@@ -144,6 +147,17 @@ static inline unsigned rm_record_profile(uint64_t answer) {
 static inline uint32_t rm_record_serial(uint64_t answer) {
     return (uint32_t)(answer >> 32);
 }
+
+/* Runs a script of operations on a tally of answers by number, 32 counts, with no name held at the start, and leaves the counts after it. An
+ * operation is
+ *   0 and a byte: one more answer of that number; numbers above 31 change nothing, and a count stops at 4,294,967,295;
+ *   1 and 8 bytes: the tally is saved under that name, in place of the one saved there before;
+ *   2 and 8 bytes: the tally saved under that name is returned to;
+ *   3 and 8 bytes: the name is dropped, and its place is free.
+ * Each writes one byte of the answers: 0, RM_UNKNOWN_NAME or RM_NAMES_FULL, and after these two all is as it was. The run ends at the script's
+ * end, at an operation that is cut short or has another first byte, or where the answers are full. Returned is the number of operations made;
+ * with a tally that has not 32 counts it is 2^64 - 1, and nothing is written. */
+uint64_t rm_tallies(const uint8_t *script, size_t script_len, uint8_t *answers, size_t answers_len, uint32_t *tally, size_t tally_len);
 
 #ifdef __cplusplus
 }

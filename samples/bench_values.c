@@ -1,4 +1,5 @@
-/* Document 01's meter bench values, some gaps and a table, called from C: ends with 0 only where every one of them holds. It is C++ as well.
+/* Document 01's meter bench values, some gaps, a table and a script of tallies, called from C: ends with 0 only where every one of them holds.
+ * It is C++ as well.
  *
  *   rt staticlib harness && cc -Iinclude samples/bench_values.c target/staticlib/libharness.a -o target/bench_values && target/bench_values
  */
@@ -172,6 +173,22 @@ static void tables(void) {
     expect(rm_refusal(answer) == RM_UNSETTLED && rm_leaves(answer) == 7, "a made table", "11");
 }
 
+/* Document 02, request 11: a tally saved, counted on, returned to and dropped; then two unknown names and an operation cut short. */
+static void tallies(void) {
+    static const char script[] = "\0\11" "1morning-" "\0\11" "2morning-" "3morning-" "2morning-" "3evening-" "1night";
+    static const uint8_t right[8] = {0, 0, 0, 0, 0, RM_UNKNOWN_NAME, RM_UNKNOWN_NAME, 7};
+    uint8_t bytes[sizeof script], answers[8];
+    uint32_t tally[32];
+    size_t i, length = sizeof script - 1;
+    for (i = 0; i < length; i++) bytes[i] = (uint8_t)(script[i] >= '1' && script[i] <= '3' ? script[i] - '0' : script[i]);
+    memset(answers, 7, sizeof answers);
+    memset(tally, 0, sizeof tally);
+    expect(rm_tallies(bytes, length, answers, 8, tally, 32) == 7, "a script", "the number of operations");
+    expect(memcmp(answers, right, 8) == 0, "a script", "an answer");
+    expect(tally[RM_TIE] == 1, "a script", "the tally returned to");
+    expect(rm_tallies(bytes, length, answers, 8, tally, 31) == (uint64_t)-1, "a script", "a tally of 31 counts");
+}
+
 /* Each number of an answer by itself, and the place of a bad byte. */
 static void numbers(void) {
     uint64_t answer = (uint64_t)12 | (uint64_t)5 << 8 | (uint64_t)1000000 << 16 | (uint64_t)1024 << 40 | (uint64_t)1023 << 52;
@@ -190,6 +207,7 @@ int main(void) {
     example();
     gaps();
     tables();
+    tallies();
     numbers();
     if (failures == 0) puts("the bench values hold");
     return failures != 0;

@@ -8,6 +8,7 @@ ghost use Rattle.rule.specs.Decoding.{decodeCall, decodeProfileCall};
 ghost use Rattle.packing.specs.Packing.{Returns, ReturnsDecoded, ReturnsGap, packTest};
 
 mod by_table;
+mod tally_calls;
 
 #[no_mangle]
 pub extern "C" fn rm_encode(m: usize, r: usize, message: &[u8], out: &mut [u8]) -> u64

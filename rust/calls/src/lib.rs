@@ -64,6 +64,14 @@ extern "C" {
         word: *mut u8,
         word_len: usize,
     ) -> u64;
+    fn rm_tallies(
+        script: *const u8,
+        script_len: usize,
+        answers: *mut u8,
+        answers_len: usize,
+        tally: *mut u32,
+        tally_len: usize,
+    ) -> u64;
 }
 
 #[inline]
@@ -155,4 +163,14 @@ pub fn record(file: &[u8], rest: &[u8], word: &mut [u8]) -> Found {
     let (rest, rest_len) = (rest.as_ptr(), rest.len());
     // SAFETY: as for `encode`.
     Found::unpacked(unsafe { rm_record(file, file_len, rest, rest_len, word.as_mut_ptr(), word.len()) })
+}
+
+/// Runs a script of operations on tallies; the number of operations made.
+#[inline]
+pub fn tallies(script: &[u8], answers: &mut [u8], tally: &mut [u32]) -> u64 {
+    let (script, script_len) = (script.as_ptr(), script.len());
+    let (answers, answers_len) = (answers.as_mut_ptr(), answers.len());
+    let (tally, tally_len) = (tally.as_mut_ptr(), tally.len());
+    // SAFETY: as for `encode`.
+    unsafe { rm_tallies(script, script_len, answers, answers_len, tally, tally_len) }
 }

@@ -1,6 +1,6 @@
 //! A call with its arguments, and what it leaves behind.
 
-use crate::decoder::{Answer, Decoder, Tables};
+use crate::decoder::{Answer, Beyond, Decoder};
 use crate::lent;
 use second::profiles::Profile;
 use std::fmt;
@@ -107,13 +107,13 @@ impl Call {
             Call::Decode { m, r, rounds, leaves, .. } => decoder.decode(*m, *r, *rounds, *leaves, input, out, area),
             Call::DecodeProfile { profile, .. } => decoder.decode_profile(*profile, input, out, area),
             Call::Gap { m, .. } => decoder.gap(*m, input, area),
-            _ => self.made_under_table(decoder.tables().expect("a decoder with tables"), input, file, out, area),
+            _ => self.made_under_table(decoder.beyond().expect("a decoder with tables"), input, file, out, area),
         }
     }
 
     fn made_under_table(
         &self,
-        tables: &mut dyn Tables,
+        tables: &mut dyn Beyond,
         input: &[u8],
         file: &[u8],
         out: &mut [u8],

@@ -3,6 +3,7 @@
 use crate::call::{digits, Call, Effects};
 use crate::decoder::{Answer, Decoder};
 use crate::decoders::Faulty;
+use crate::tallies::{self, Left};
 use second::Fault;
 use std::fmt;
 
@@ -16,7 +17,7 @@ impl fmt::Display for Disagreement {
 }
 
 /// One more than the greatest number of an answer.
-pub const REFUSALS: usize = 21;
+pub const REFUSALS: usize = 29;
 
 /// A decoder beside the right second decoder.
 pub struct Comparison<'a> {
@@ -28,12 +29,19 @@ pub struct Comparison<'a> {
     pub pairs: u64,
     /// How many blocks were mended as document 02's guarantee says.
     pub mended: u64,
+    /// How many operations on tallies were compared.
+    pub operations: u64,
 }
 
 impl<'a> Comparison<'a> {
     pub fn new(candidate: &'a mut dyn Decoder) -> Comparison<'a> {
         let (right, by_steps) = (Faulty::new(Fault::None), Faulty::by_steps());
-        Comparison { candidate, right, by_steps, met: [0; REFUSALS], pairs: 0, mended: 0 }
+        Comparison { candidate, right, by_steps, met: [0; REFUSALS], pairs: 0, mended: 0, operations: 0 }
+    }
+
+    /// Whether the candidate has the calls beyond decoding.
+    pub fn goes_beyond(&mut self) -> bool {
+        self.candidate.beyond().is_some()
     }
 
     /// Makes the call on both; the right effects if they agree. The codeword test is held to the steps too.
@@ -51,6 +59,14 @@ impl<'a> Comparison<'a> {
         }
         self.met[right.answer.refusal as usize] += 1;
         Ok(right)
+    }
+
+    /// What the candidate and the right one leave of a run of a script.
+    pub fn tallies(&mut self, script: &[u8], room: usize, tally: &[u32]) -> (Left, Left) {
+        let found = tallies::left(self.candidate, script, room, tally);
+        let right = tallies::left(&mut self.right, script, room, tally);
+        self.operations += right.operations();
+        (found, right)
     }
 
     pub fn calls(&self) -> u64 {

@@ -43,14 +43,14 @@ pub trait Decoder {
     /// The gap stands in the leaf count.
     fn gap(&mut self, m: usize, word: &[u8], area: &mut [i32]) -> Answer;
 
-    /// The calls under tables, where the decoder has them.
-    fn tables(&mut self) -> Option<&mut dyn Tables> {
+    /// The calls beyond decoding, which no decoder written for speed has.
+    fn beyond(&mut self) -> Option<&mut dyn Beyond> {
         None
     }
 }
 
-/// Document 02, request 4.
-pub trait Tables {
+/// Document 02, requests 4 and 11.
+pub trait Beyond {
     fn decode_table(&mut self, file: &[u8], number: usize, word: &[u8], out: &mut [u8], area: &mut [i32]) -> Answer;
 
     /// Under a table that no load made: its count, and the one entry that all 32 are.
@@ -66,4 +66,7 @@ pub trait Tables {
 
     /// 1 in the rounds where no record is left, the serial in the leaf count, the profile in the place.
     fn record(&mut self, file: &[u8], rest: &[u8], word: &mut [u8]) -> Answer;
+
+    /// Runs a script of operations on tallies; the number of operations made.
+    fn tallies(&mut self, script: &[u8], answers: &mut [u8], tally: &mut [u32]) -> u64;
 }

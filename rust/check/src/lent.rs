@@ -14,6 +14,16 @@ impl<T: Copy + PartialEq> Lent<T> {
         Lent { all, guards }
     }
 
+    /// With these inside.
+    pub fn of(inside: &[T]) -> Lent<T>
+    where
+        T: Default,
+    {
+        let mut lent = Lent::new(inside.len(), |_| T::default());
+        lent.inside().copy_from_slice(inside);
+        lent
+    }
+
     pub fn inside(&mut self) -> &mut [T] {
         let end = self.all.len() - GUARD;
         &mut self.all[GUARD..end]

@@ -15,7 +15,8 @@ pub mod plan;
 pub mod random;
 mod small;
 pub mod tables;
+pub mod tallies;
 pub mod values;
 
 pub use compare::{Comparison, Disagreement};
-pub use decoder::{Answer, Decoder, Tables};
+pub use decoder::{Answer, Beyond, Decoder};

@@ -1,7 +1,7 @@
 //! What the comparison goes through.
 
 use crate::compare::{Comparison, Disagreement};
-use crate::{alike, bad_calls, blocks, code_calls, gaps, guarantee, small, tables, values};
+use crate::{alike, bad_calls, blocks, code_calls, gaps, guarantee, small, tables, tallies, values};
 
 /// Few calls that still show every fault.
 pub fn directed(c: &mut Comparison) -> Result<(), Disagreement> {
@@ -17,17 +17,28 @@ pub fn directed(c: &mut Comparison) -> Result<(), Disagreement> {
     gaps::every(c, 2)?;
     gaps::bad(c, 94, 400)?;
     gaps::sampled(c, 95, 4, 10)?;
+    blocks::by_profile(c, 91, 0, 10)?;
+    blocks::by_profile(c, 92, 1, 10)?;
+    if c.goes_beyond() {
+        directed_beyond(c)?;
+    }
+    Ok(())
+}
+
+/// The same for the calls beyond decoding.
+fn directed_beyond(c: &mut Comparison) -> Result<(), Disagreement> {
     tables::files(c, 96, 100)?;
     tables::made(c, 97)?;
     tables::records(c, 98, 2)?;
-    blocks::by_profile(c, 91, 0, 10)?;
-    blocks::by_profile(c, 92, 1, 10)
+    tallies::full(c)?;
+    tallies::short(c, 96, 40)?;
+    tallies::long(c, 97, 400, 18)
 }
 
 pub type Part = (&'static str, fn(&mut Comparison) -> Result<(), Disagreement>);
 
 /// The whole comparison by parts.
-pub const WHOLE: [Part; 13] = [
+pub const WHOLE: &[Part] = &[
     ("known values", values::all),
     ("every word to m 4", every_small_word),
     ("encoder, message reader, codeword test", every_code_call),
@@ -40,8 +51,10 @@ pub const WHOLE: [Part; 13] = [
     ("pairs that differ by a codeword", every_pair),
     ("the gap", every_gap),
     ("blocks that are surely mended", every_mended),
-    ("tables of the customer's own", every_table),
 ];
+
+/// The parts for the calls beyond decoding.
+pub const BEYOND: &[Part] = &[("tables of the customer's own", every_table), ("tallies", every_script)];
 
 fn every_small_word(c: &mut Comparison) -> Result<(), Disagreement> {
     (1..=3).try_for_each(|m| small::every_word(c, m))?;
@@ -152,4 +165,11 @@ fn every_table(c: &mut Comparison) -> Result<(), Disagreement> {
     tables::files(c, 2_000, 3_000)?;
     tables::made(c, 2_001)?;
     tables::records(c, 2_002, 32)
+}
+
+fn every_script(c: &mut Comparison) -> Result<(), Disagreement> {
+    tallies::full(c)?;
+    tallies::lengths(c)?;
+    tallies::short(c, 2_000, 2_000)?;
+    [2, 12, 14, 18, 40].into_iter().try_for_each(|others| tallies::long(c, 2_100 + others as u64, 40_000, others))
 }

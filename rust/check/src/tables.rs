@@ -277,15 +277,7 @@ impl<'a, 'b> Under<'a, 'b> {
     }
 }
 
-/// A decoder without tables has nothing to compare.
-fn has_tables(c: &mut Comparison) -> bool {
-    c.candidate.tables().is_some()
-}
-
 pub fn files(c: &mut Comparison, seed: u64, times: usize) -> Result<(), Disagreement> {
-    if !has_tables(c) {
-        return Ok(());
-    }
     let mut under = Under::new(c, seed);
     for count in [1, 2, 32] {
         let all = entries(&mut under.random, count);
@@ -300,18 +292,12 @@ pub fn files(c: &mut Comparison, seed: u64, times: usize) -> Result<(), Disagree
 }
 
 pub fn made(c: &mut Comparison, seed: u64) -> Result<(), Disagreement> {
-    if !has_tables(c) {
-        return Ok(());
-    }
     let mut under = Under::new(c, seed);
     under.made()?;
     met_just("a made table's calls", &under.met, &[0, 5, 6, 7, 8, 9, 10, 11, 12, 14])
 }
 
 pub fn records(c: &mut Comparison, seed: u64, files: usize) -> Result<(), Disagreement> {
-    if !has_tables(c) {
-        return Ok(());
-    }
     let mut under = Under::new(c, seed);
     under.records(files)?;
     let rest = record(1, 0, &[0; 8]);

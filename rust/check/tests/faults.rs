@@ -80,6 +80,15 @@ noticed! {
     entry_above_31: EntryAbove31,
     area_cleared_after_load: AreaClearedAfterLoad,
     bits_before_14: BitsBefore14,
+    counts_wrap: CountsWrap,
+    answer_31_uncounted: Answer31Uncounted,
+    answer_32_counted: Answer32Counted,
+    refused_save_overwrites: RefusedSaveOverwrites,
+    full_refuses_held_names: FullRefusesHeldNames,
+    another_name_dropped: AnotherNameDropped,
+    seven_byte_names: SevenByteNames,
+    returning_drops: ReturningDrops,
+    unknown_name_clears: UnknownNameClears,
 }
 
 /// This one renumbers cosets in projection and vote alike, which no answer shows; the tests of `second` see it.

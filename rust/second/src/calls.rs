@@ -11,6 +11,7 @@ use crate::profiles::{self, Profile};
 use crate::reading::{Failure, Lists, Reader};
 use crate::steps;
 use crate::table::{self, Found, Table};
+use crate::tallies;
 use crate::Fault;
 
 /// The second encoder and decoder, right or made wrong.
@@ -73,6 +74,11 @@ impl Second {
             area.fill(0);
         }
         Answer { leaves: gap::gap(word, self.fault), ..Answer::default() }
+    }
+
+    /// Runs a script of operations on tallies.
+    pub fn tallies(&self, script: &[u8], answers: &mut [u8], tally: &mut [u32]) -> u64 {
+        tallies::run(script, answers, tally, self.fault)
     }
 
     #[allow(clippy::too_many_arguments)]

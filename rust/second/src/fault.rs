@@ -101,10 +101,28 @@ pub enum Fault {
     AreaClearedAfterLoad,
     /// A record without bits is refused 16 before its profile is tested.
     BitsBefore14,
+    /// A tally's count goes on from 4,294,967,295 to 0.
+    CountsWrap,
+    /// Answer 31 is not counted.
+    Answer31Uncounted,
+    /// Answer 32 is counted as 31.
+    Answer32Counted,
+    /// A save that is refused 26 overwrites another name's tally.
+    RefusedSaveOverwrites,
+    /// With sixteen names held a save is refused 26 even under one of them.
+    FullRefusesHeldNames,
+    /// Dropping a name frees another one's place.
+    AnotherNameDropped,
+    /// Names are compared in seven bytes.
+    SevenByteNames,
+    /// Returning to a name drops it.
+    ReturningDrops,
+    /// Returning to an unknown name clears the tally.
+    UnknownNameClears,
 }
 
 impl Fault {
-    pub const ALL: [Fault; 50] = [
+    pub const ALL: &'static [Fault] = &[
         Fault::LowerMask,
         Fault::FlipsDuringRound,
         Fault::AbstainerVotesZeros,
@@ -155,6 +173,15 @@ impl Fault {
         Fault::EntryAbove31,
         Fault::AreaClearedAfterLoad,
         Fault::BitsBefore14,
+        Fault::CountsWrap,
+        Fault::Answer31Uncounted,
+        Fault::Answer32Counted,
+        Fault::RefusedSaveOverwrites,
+        Fault::FullRefusesHeldNames,
+        Fault::AnotherNameDropped,
+        Fault::SevenByteNames,
+        Fault::ReturningDrops,
+        Fault::UnknownNameClears,
     ];
 
     /// Whether the fault is one of the codeword test's steps.

@@ -1,5 +1,5 @@
-//! A second encoder, message reader, codeword test, decoder, gap, load of table files and capture reader, written from the papers alone and
-//! for plainness, not speed: everything is found by search and by trying all codewords. The codeword test stands twice, by the
+//! A second encoder, message reader, codeword test, decoder, gap, load of table files, capture reader and named tallies, written from the
+//! papers alone and for plainness, not speed: everything is found by search and by trying all codewords. The codeword test stands twice, by the
 //! coefficients and by the steps of document 02.
 //! It can be made wrong in named ways (`Fault`), to show that a comparison with it notices them.
 
@@ -15,6 +15,7 @@ pub mod profiles;
 mod reading;
 pub mod steps;
 pub mod table;
+pub mod tallies;
 
 pub use answer::Answer;
 pub use calls::Second;

@@ -27,30 +27,37 @@ fn decoder(name: &str) -> Box<dyn Decoder> {
     }
 }
 
-/// How often each answer was given, how many pairs agreed, and how many blocks were surely mended.
+/// How often each answer was given, how many pairs agreed, how many blocks were surely mended, and the operations on tallies.
 struct Met {
     answers: [u64; REFUSALS],
     pairs: u64,
     mended: u64,
+    operations: u64,
 }
 
 /// Takes parts of the plan until none is left.
 fn parts(name: &str, next: &AtomicUsize) -> Result<Met, Disagreement> {
     let mut candidate = decoder(name);
     let mut c = Comparison::new(candidate.as_mut());
-    while let Some((title, part)) = plan::WHOLE.get(next.fetch_add(1, Ordering::Relaxed)) {
-        let (start, calls, pairs, mended) = (Instant::now(), c.calls(), c.pairs, c.mended);
+    let beyond = if c.goes_beyond() { plan::BEYOND } else { &[] };
+    let all: Vec<&plan::Part> = plan::WHOLE.iter().chain(beyond).collect();
+    while let Some((title, part)) = all.get(next.fetch_add(1, Ordering::Relaxed)) {
+        let (start, calls, pairs, mended, operations) = (Instant::now(), c.calls(), c.pairs, c.mended, c.operations);
         part(&mut c)?;
-        let (calls, pairs, mended) = (c.calls() - calls, c.pairs - pairs, c.mended - mended);
-        println!("  {title}: {calls} calls, {pairs} pairs, {mended} mended, {:.1} s", start.elapsed().as_secs_f64());
+        let (calls, pairs, mended, operations) =
+            (c.calls() - calls, c.pairs - pairs, c.mended - mended, c.operations - operations);
+        println!(
+            "  {title}: {calls} calls, {pairs} pairs, {mended} mended, {operations} operations, {:.1} s",
+            start.elapsed().as_secs_f64()
+        );
     }
-    Ok(Met { answers: c.met, pairs: c.pairs, mended: c.mended })
+    Ok(Met { answers: c.met, pairs: c.pairs, mended: c.mended, operations: c.operations })
 }
 
 fn by_threads(name: &str) -> Result<Met, Disagreement> {
     let next = AtomicUsize::new(0);
     let threads = std::thread::available_parallelism().map_or(1, |n| n.get());
-    let mut whole = Met { answers: [0; REFUSALS], pairs: 0, mended: 0 };
+    let mut whole = Met { answers: [0; REFUSALS], pairs: 0, mended: 0, operations: 0 };
     std::thread::scope(|scope| {
         let workers: Vec<_> = (0..threads).map(|_| scope.spawn(|| parts(name, &next))).collect();
         for worker in workers {
@@ -58,16 +65,18 @@ fn by_threads(name: &str) -> Result<Met, Disagreement> {
             whole.answers.iter_mut().zip(met.answers).for_each(|(sum, times)| *sum += times);
             whole.pairs += met.pairs;
             whole.mended += met.mended;
+            whole.operations += met.operations;
         }
         Ok(whole)
     })
 }
 
-/// Whether the plan meets this answer: 16, 19 and 20 are those of tables and records, and 15 is the listing's.
-fn due(number: usize, tables: bool) -> bool {
+/// Whether the plan meets this answer, which 16, 19 and 20 are beyond decoding: those of tables and records. 15 is the listing's, and what a
+/// script of tallies answers is not counted here.
+fn due(number: usize, beyond: bool) -> bool {
     match number {
         0..=14 => true,
-        16 | 19 | 20 => tables,
+        16 | 19 | 20 => beyond,
         _ => false,
     }
 }
@@ -75,17 +84,18 @@ fn due(number: usize, tables: bool) -> bool {
 fn whole(name: &str) -> Result<(), Disagreement> {
     println!("{name} against the second decoder");
     let met = by_threads(name)?;
-    let tables = decoder(name).tables().is_some();
-    for (number, times) in met.answers.iter().enumerate().filter(|(number, _)| due(*number, tables)) {
+    let beyond = decoder(name).beyond().is_some();
+    for (number, times) in met.answers.iter().enumerate().filter(|(number, _)| due(*number, beyond)) {
         println!("  answer {number:2}: {times}");
     }
     println!(
-        "  {} calls and {} pairs agree, {} blocks are surely mended",
+        "  {} calls, {} pairs and {} operations on tallies agree, {} blocks are surely mended",
         met.answers.iter().sum::<u64>(),
         met.pairs,
+        met.operations,
         met.mended
     );
-    match (0..REFUSALS).filter(|number| (met.answers[*number] > 0) != due(*number, tables)).collect::<Vec<usize>>() {
+    match (0..REFUSALS).filter(|number| (met.answers[*number] > 0) != due(*number, beyond)).collect::<Vec<usize>>() {
         none if none.is_empty() => Ok(()),
         wrong => Err(Disagreement(format!("answers that were to be met and were not, or the other way: {wrong:?}"))),
     }

@@ -1,6 +1,6 @@
 //! The second decoder, right or with a fault.
 
-use crate::decoder::{Answer, Decoder, Tables};
+use crate::decoder::{Answer, Beyond, Decoder};
 use second::profiles::Profile;
 use second::table::Table;
 use second::{Fault, Second};
@@ -57,12 +57,12 @@ impl Decoder for Faulty {
         answer(self.0.gap(m, word, area))
     }
 
-    fn tables(&mut self) -> Option<&mut dyn Tables> {
+    fn beyond(&mut self) -> Option<&mut dyn Beyond> {
         Some(self)
     }
 }
 
-impl Tables for Faulty {
+impl Beyond for Faulty {
     fn decode_table(&mut self, file: &[u8], number: usize, word: &[u8], out: &mut [u8], area: &mut [i32]) -> Answer {
         answer(self.0.decode_table(file, number, word, out, area))
     }
@@ -84,5 +84,9 @@ impl Tables for Faulty {
         let found = self.0.record(file, rest, word);
         let numbers = Answer::numbers(found.refusal as u64, found.none_left as u64, found.serial as u64);
         Answer { place: found.profile as u64, ..numbers }
+    }
+
+    fn tallies(&mut self, script: &[u8], answers: &mut [u8], tally: &mut [u32]) -> u64 {
+        self.0.tallies(script, answers, tally)
     }
 }

@@ -1,6 +1,6 @@
 //! The proved library, through its C exports.
 
-use crate::decoder::{Answer, Decoder, Tables};
+use crate::decoder::{Answer, Beyond, Decoder};
 use second::profiles::Profile;
 
 pub struct Library;
@@ -44,12 +44,12 @@ impl Decoder for Library {
         answer(calls::gap(m, word, area))
     }
 
-    fn tables(&mut self) -> Option<&mut dyn Tables> {
+    fn beyond(&mut self) -> Option<&mut dyn Beyond> {
         Some(self)
     }
 }
 
-impl Tables for Library {
+impl Beyond for Library {
     fn decode_table(&mut self, file: &[u8], number: usize, word: &[u8], out: &mut [u8], area: &mut [i32]) -> Answer {
         answer(calls::decode_table(file, number, word, out, area))
     }
@@ -72,5 +72,9 @@ impl Tables for Library {
         let numbers = Answer::numbers(found.refusal as u64, found.none_left as u64, found.serial as u64);
         // a bit that must be 0 would show as a place mended
         Answer { place: found.profile as u64, mended: found.unused as u64, ..numbers }
+    }
+
+    fn tallies(&mut self, script: &[u8], answers: &mut [u8], tally: &mut [u32]) -> u64 {
+        calls::tallies(script, answers, tally)
     }
 }

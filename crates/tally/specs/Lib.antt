@@ -1,0 +1,3 @@
+-- Definitions: Counts. Laws: CountLaws.
+pub mod Counts
+pub mod CountLaws
