@@ -2,13 +2,11 @@
 use Prim.Native.Nat.{ℕ}
 use mathlib.Core.Path.{_≡_}
 use mathlib.Core.List.{List}
-use lib.IntN.{ℤ}
-use Rattle.rule.specs.Decoding.{zeros}
 use Rattle.profiles.specs.declared.Profile.{Profile}
 use Rattle.tables.specs.Limits.{InLimits}
 use Rattle.rule.specs.DecodingLaws.{RightSizes}
 use Rattle.text.specs.Texts.{Appended}
-use Rattle.lines.specs.Lines.{Entry, entry, billing, recordEntry}
+use Rattle.lines.specs.Lines.{Entry, entry}
 use Rattle.entries.specs.declared.records.Line.{Line}
 
 -- a word of an entry, with an output of `room` bytes and an area of `area` numbers
@@ -26,8 +24,3 @@ okIn (entry line ok) = ok
 pub record Lined (e : Entry) (before : List ℕ) (at : ℕ) (after : List ℕ) (line : Line) : Type 0 where
   pub text : Appended before at (lineIn e) (line .end) after
   pub counted : line .accepted ≡ okIn e
-
--- billing's line of a record was put there, whatever the number of its profile, and its word was read in the area
-pub record Billed (serial : ℕ) (p : Profile) (word before : List ℕ) (at : ℕ) (after : List ℕ) (area area′ : List ℤ) (line : Line) : Type 0 where
-  pub lined : (number : ℕ) → Lined (recordEntry billing serial number p word) before at after line
-  pub lent : area′ ≡ zeros area

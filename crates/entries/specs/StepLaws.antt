@@ -25,11 +25,11 @@ use Rattle.capture.specs.Capture.{bodyLength, Stands}
 use Rattle.capture.specs.Cases.{none, known-body, own-size, sized}
 use Rattle.rule.specs.Reading.{Outcome, accepted, refused}
 use Rattle.rule.specs.Decoding.{zeros}
-use Rattle.lines.specs.Lines.{Lines, Entry, entry, acceptedIn, billing, decodedBy, recordEntry}
+use Rattle.lines.specs.Lines.{Lines, Entry, entry, acceptedIn, decodedBy, recordEntry}
 use Rattle.text.specs.Texts.{Appended}
 use Rattle.text.specs.TextLaws.{appended-within}
 use Rattle.entries.specs.declared.records.Line.{Line}
-use Rattle.entries.specs.Decodable.{Billed, Decodable, Lined, lineIn, okIn}
+use Rattle.entries.specs.Decodable.{Decodable, Lined, lineIn, okIn}
 use Rattle.pieces.specs.Listing.{linesOf, acceptedOf, isRecord, start, startsRecord}
 use Rattle.pieces.specs.Pieces.{areaAfter, entries}
 use Rattle.pieces.specs.Steps.{Steps}
@@ -173,14 +173,15 @@ module _ {reader : Lines} {slot : Slot} {part before : List ℕ} {at : ℕ} (h :
   }
 
   -- a record
-  step-record : {serial number next : ℕ} {after : List ℕ} {area area′ : List ℤ} {line : Line} → start slot part ≡ capture.record-at serial number next
-      → Lined (recordEntry reader serial number (slot .profile) (unpacked slot part)) before at after line → area′ ≡ zeros area
+  pub step-record : {serial number next : ℕ} {word after : List ℕ} {area area′ : List ℤ} {line : Line} → start slot part ≡ capture.record-at serial number next
+      → word ≡ unpacked slot part → Lined (recordEntry reader serial number (slot .profile) word) before at after line × (area′ ≡ zeros area)
       → Steps reader slot part before at after area area′ (record { consumed = next; written = line .end; records = 1; accepted = line .accepted; ended = false })
-  step-record {serial} {number} {next} {after} {area} {line = line} e a z = record {
+  step-record {serial} {number} {next} {after = after} {area} {line = line} e w l = record {
     under = λ t q.
         let f : start (slotAt t part) part ≡ capture.record-at serial number next = ap (λ (x : Slot). start x part) (sym q) ∙ e in
         let r = record-of slot part e in
         let it : Entry = recordEntry reader serial number (slot .profile) (unpacked slot part) in
+        let a : Lined it before at after line = rw w at (l .0) in
         let es : entries t reader (take next part) ≡ it ∷ [] = record-entry t reader part f
         ∙ ap (λ (x : Slot). recordEntry reader serial number (x .profile) (unpacked x part) ∷ []) (sym q) in
         record {
@@ -199,12 +200,6 @@ module _ {reader : Lines} {slot : Slot} {part before : List ℕ} {at : ℕ} (h :
           };
           moves = λ y. omega (arith, r .next-is);
           reads = ap not (sym (reads-by t part q e));
-          lent = cleared t part area (reads-by t part q e) z;
+          lent = cleared t part area (reads-by t part q e) (l .1);
         };
   }
-
--- billing's line of a record
-pub step-billed : {slot : Slot} {part word before after : List ℕ} {at serial number next : ℕ} {area area′ : List ℤ} {line : Line} → at ≤ length before
-    → start slot part ≡ capture.record-at serial number next → word ≡ unpacked slot part → Billed serial (slot .profile) word before at after area area′ line
-    → Steps billing slot part before at after area area′ (record { consumed = next; written = line .end; records = 1; accepted = line .accepted; ended = false })
-step-billed {number = number} h e w b = step-record h e (rw w at (b .lined number)) (b .lent)

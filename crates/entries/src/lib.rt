@@ -1,20 +1,21 @@
-// The line of what stands at the start of a part of a capture.
+// The reader's line of what stands at the start of a part of a capture.
 ghost use mathlib.Core.Path.{_≡_};
 ghost use Prim.Native.Nat.{_+_, _*_, _≤_};
 ghost use lib.ListN.{length};
 ghost use Rattle.capture.specs.Capture.{bodyLength};
 ghost use Rattle.tables.specs.Slots.{Proper};
-ghost use Rattle.lines.specs.Lines.{billing};
 ghost use Rattle.pieces.specs.Steps.{Steps};
+ghost use Rattle.readers.specs.Readers.{linesFor};
 use capture::Found;
-use notices::refusal_line;
 use pieces::Listed;
+use readers::Reader;
 use tables::Slot;
 
 mod records;
 
 // The line of what stands at the start of the part, by way of a word buffer of its size. 14, 16 and no byte left end the listing.
 fn list_found(
+    reader: Reader,
     slot: Slot,
     part: &[u8],
     word: &mut [u8],
@@ -24,7 +25,7 @@ fn list_found(
     area: &mut [i32],
 ) -> Listed
     requires { ⌜ Proper slot × (length (now word) ≡ 8 * bodyLength slot (now part)) × (length (now decoded) ≡ length (now word)) × (at + 268 ≤ length (now out)) × (64 * bodyLength slot (now part) ≤ length (now area)) ⌝ }
-    ensures { λ d. ⌜ Steps billing slot (now (part .entry)) (now (out .entry)) at (now (out .exit)) (now (area .entry)) (now (area .exit)) d ⌝ }
+    ensures { λ d. ⌜ Steps (linesFor reader) slot (now (part .entry)) (now (out .entry)) at (now (out .exit)) (now (area .entry)) (now (area .exit)) d ⌝ }
 {
     let found = capture::record_in(slot, part, 0, word);
     match found {
@@ -37,13 +38,23 @@ fn list_found(
         },
         Found::Refused(why, serial) => Listed {
             consumed: part.len(),
-            written: refusal_line(why, serial, out, at),
+            written: readers::refusal_line(reader, why, serial, out, at),
             records: 1,
             accepted: 0,
             ended: true,
         },
-        Found::Record(serial, _, next) => {
-            let line = records::record_line(serial, slot.profile, word, decoded, out, at, area);
+        Found::Record(serial, number, next) => {
+            let line = records::record_line(
+                reader,
+                serial,
+                number,
+                slot.profile,
+                word,
+                decoded,
+                out,
+                at,
+                area,
+            );
             Listed {
                 consumed: next,
                 written: line.end,
@@ -57,6 +68,7 @@ fn list_found(
 
 // The line of what stands at the start of the part, by what the table has at its profile, by way of two buffers for the longest words.
 pub fn list_one(
+    reader: Reader,
     slot: Slot,
     part: &[u8],
     word: &mut [u8],
@@ -66,10 +78,11 @@ pub fn list_one(
     area: &mut [i32],
 ) -> Listed
     requires { ⌜ Proper slot × (1024 ≤ length (now word)) × (1024 ≤ length (now decoded)) × (at + 268 ≤ length (now out)) × (64 * bodyLength slot (now part) ≤ length (now area)) ⌝ }
-    ensures { λ d. ⌜ Steps billing slot (now (part .entry)) (now (out .entry)) at (now (out .exit)) (now (area .entry)) (now (area .exit)) d ⌝ }
+    ensures { λ d. ⌜ Steps (linesFor reader) slot (now (part .entry)) (now (out .entry)) at (now (out .exit)) (now (area .entry)) (now (area .exit)) d ⌝ }
 {
     let bits = 8 * capture::body_length(slot, part);
     list_found(
+        reader,
         slot,
         part,
         &mut word[0..bits],

@@ -1,9 +1,13 @@
-// The line of a record: its word decoded, and the message of what was decoded.
+// The line of a record: its word decoded, and the reader's line of what the decoder gave.
+ghost use mathlib.Core.Path.{_≡_};
 ghost use Prim.Native.Nat.{_+_, _≤_};
 ghost use lib.ListN.{length};
-ghost use Rattle.entries.specs.Decodable.{Billed, Decodable};
+ghost use Rattle.rule.specs.Decoding.{zeros};
+ghost use Rattle.lines.specs.Lines.{recordEntry};
+ghost use Rattle.readers.specs.Readers.{linesFor};
+ghost use Rattle.entries.specs.Decodable.{Decodable, Lined};
 use profiles::Profile;
-use refusals::Decoded;
+use readers::Reader;
 
 // Where a line ends, and 1 where its record was accepted.
 pub struct Line {
@@ -11,9 +15,11 @@ pub struct Line {
     pub accepted: usize,
 }
 
-// The line of a record with that word, whatever its profile's number, by way of `decoded`. The word's buffer serves for the message.
+// The line of a record with that word, by way of `decoded`.
 pub fn record_line(
+    reader: Reader,
     serial: u32,
+    number: usize,
     p: Profile,
     word: &mut [u8],
     decoded: &mut [u8],
@@ -22,17 +28,11 @@ pub fn record_line(
     area: &mut [i32],
 ) -> Line
     requires { ⌜ Decodable p (now word) (length (now decoded)) (length (now area)) × (at + 268 ≤ length (now out)) ⌝ }
-    ensures { λ line. ⌜ Billed serial p (now (word .entry)) (now (out .entry)) at (now (out .exit)) (now (area .entry)) (now (area .exit)) line ⌝ }
+    ensures { λ line. ⌜ Lined (recordEntry (linesFor reader) serial number p (now (word .entry))) (now (out .entry)) at (now (out .exit)) line × (now (area .exit) ≡ zeros (now (area .entry))) ⌝ }
 {
     let answer = decoder::decode(p.m, p.r, p.rounds, p.leaves, word, decoded, area);
-    match answer {
-        Decoded::Accepted(_, _, _) => Line {
-            end: accepted::accepted_line(serial, p, decoded, word, out, at),
-            accepted: 1,
-        },
-        Decoded::Refused(why, _, _) => Line {
-            end: lines::refused_line(serial, refusals::number(why), out, at),
-            accepted: 0,
-        },
+    Line {
+        end: readers::record_line(reader, serial, number, p, answer, decoded, word, out, at),
+        accepted: lines::accepted_in(answer),
     }
 }

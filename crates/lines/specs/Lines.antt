@@ -6,6 +6,8 @@ use lib.ListN.{replicate}
 use lib.Dec.{eqb}
 use Rattle.text.specs.Numbers.{tenDigits, decimal, hexOf}
 use Rattle.refusals.specs.declared.Refusal.the-variants.{Header}
+use Rattle.refusals.specs.declared.Decoded.{Decoded}
+use Rattle.refusals.specs.declared.Decoded.the-variants.{Accepted, Refused}
 use Rattle.refusals.specs.Refusals.{numberOf}
 use Rattle.code.specs.Code.{messageOf}
 use Rattle.profiles.specs.declared.Profile.{Profile}
@@ -27,8 +29,11 @@ abbrev pub refusedLine : ℕ → ℕ → List ℕ
 refusedLine serial number = tenDigits serial ++ refusalText number ++ newline
 
 -- "16 prints ten hyphens for the serial."
+abbrev pub hyphens : List ℕ
+hyphens = replicate 10 45
+
 abbrev pub cutLine : List ℕ
-cutLine = replicate 10 45 ++ refusalText 16 ++ newline
+cutLine = hyphens ++ refusalText 16 ++ newline
 
 -- the lines that a reader of the listing sees: of a record, by its serial, its profile's number and entry, its word and what the decoder
 -- gives for it; and of a refusal of the capture reader, by its number and the serial
@@ -51,6 +56,11 @@ pub data Entry : Type 0 where
 abbrev pub acceptedIn : Outcome → ℕ
 acceptedIn (accepted d k l) = 1
 acceptedIn (refused e k l) = 0
+
+-- the same of the code's answer
+abbrev pub acceptedBy : Decoded → ℕ
+acceptedBy (Accepted k l c) = 1
+acceptedBy (Refused why k l) = 0
 
 -- a record's entry, by what the decoder gives under its profile p
 abbrev pub decodedBy : Profile → List ℕ → Outcome

@@ -127,7 +127,7 @@ module _ (t : Table) (reader : Lines) where
   unfolding listingOf
   listing-refused c h = rw (sym (header-first c) ∙ h)
 
-  listing-is : (c : List ℕ) → headerTest (take 5 c) ≡ true → listingOf t reader c ≡ linesOf (entries t reader (drop 5 c)) ++ lastLine (length (entries t reader (drop 5 c))) (acceptedOf (entries t reader (drop 5 c)))
+  pub listing-is : (c : List ℕ) → headerTest (take 5 c) ≡ true → listingOf t reader c ≡ linesOf (entries t reader (drop 5 c)) ++ lastLine (length (entries t reader (drop 5 c))) (acceptedOf (entries t reader (drop 5 c)))
   unfolding listingOf
   listing-is c h = rw (sym (header-first c) ∙ h, entries-turns t reader (length c) (drop 5 c) (omega (arith, length-drop 5 c)))
 

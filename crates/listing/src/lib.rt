@@ -1,13 +1,15 @@
-// The meter listing, a part of a capture at a time, under a table.
+// A reader's listing, a part of a capture at a time, under a table.
 ghost use Prim.Native.Nat.{_≤_};
 ghost use lib.ListN.{length};
-ghost use Rattle.lines.specs.Lines.{billing};
 ghost use Rattle.pieces.specs.Pieces.{Lists, Turn};
+ghost use Rattle.readers.specs.Readers.{linesFor};
 use pieces::Listed;
+use readers::Reader;
 use tables::Table;
 
 // The same as `list_part`, by way of two buffers for the longest words.
 fn list_in(
+    reader: Reader,
     table: Table,
     part: &[u8],
     last: bool,
@@ -17,7 +19,7 @@ fn list_in(
     area: &mut [i32],
 ) -> Listed
     requires { ⌜ (1024 ≤ length (now word)) × (1024 ≤ length (now decoded)) ⌝ }
-    ensures { λ d. ⌜ Lists table billing (now (part .entry)) last (now (out .entry)) (now (out .exit)) (now (area .entry)) (now (area .exit)) d ⌝ }
+    ensures { λ d. ⌜ Lists table (linesFor reader) (now (part .entry)) last (now (out .entry)) (now (out .exit)) (now (area .entry)) (now (area .exit)) d ⌝ }
 {
     let mut d = Listed {
         consumed: 0,
@@ -38,6 +40,7 @@ fn list_in(
         d = pieces::joined(
             d,
             entries::list_one(
+                reader,
                 slot,
                 &part[from..],
                 word,
@@ -53,6 +56,7 @@ fn list_in(
 
 // The same, by way of one; the other is cleared once a part, not once a record.
 fn list_by(
+    reader: Reader,
     table: Table,
     part: &[u8],
     last: bool,
@@ -61,33 +65,41 @@ fn list_by(
     area: &mut [i32],
 ) -> Listed
     requires { ⌜ 1024 ≤ length (now word) ⌝ }
-    ensures { λ d. ⌜ Lists table billing (now (part .entry)) last (now (out .entry)) (now (out .exit)) (now (area .entry)) (now (area .exit)) d ⌝ }
+    ensures { λ d. ⌜ Lists table (linesFor reader) (now (part .entry)) last (now (out .entry)) (now (out .exit)) (now (area .entry)) (now (area .exit)) d ⌝ }
 {
     let mut decoded = [0u8; 1024];
-    list_in(table, part, last, word, &mut decoded, out, area)
+    list_in(reader, table, part, last, word, &mut decoded, out, area)
 }
 
 // Lists a part of a capture that starts at a record: of the records that are whole in it, as many as have room in the output. `last`
 // where the input ends with the part: then a record that is not whole is listed too. The area has at least 8 × n numbers for the
 // longest word.
-pub fn list_part(table: Table, part: &[u8], last: bool, out: &mut [u8], area: &mut [i32]) -> Listed
-    ensures { λ d. ⌜ Lists table billing (now (part .entry)) last (now (out .entry)) (now (out .exit)) (now (area .entry)) (now (area .exit)) d ⌝ }
+pub fn list_part(
+    reader: Reader,
+    table: Table,
+    part: &[u8],
+    last: bool,
+    out: &mut [u8],
+    area: &mut [i32],
+) -> Listed
+    ensures { λ d. ⌜ Lists table (linesFor reader) (now (part .entry)) last (now (out .entry)) (now (out .exit)) (now (area .entry)) (now (area .exit)) d ⌝ }
 {
     let mut word = [0u8; 1024];
-    list_by(table, part, last, &mut word, out, area)
+    list_by(reader, table, part, last, &mut word, out, area)
 }
 
 // Lists the bytes that a program holds, and moves those that are left to the front.
 pub fn list_held(
+    reader: Reader,
     table: Table,
     held: &mut [u8],
     last: bool,
     out: &mut [u8],
     area: &mut [i32],
 ) -> Listed
-    ensures { λ d. ⌜ Turn table billing (now (held .entry)) (now (held .exit)) last (now (out .entry)) (now (out .exit)) (now (area .entry)) (now (area .exit)) d ⌝ }
+    ensures { λ d. ⌜ Turn table (linesFor reader) (now (held .entry)) (now (held .exit)) last (now (out .entry)) (now (out .exit)) (now (area .entry)) (now (area .exit)) d ⌝ }
 {
-    let d = list_part(table, held, last, out, area);
+    let d = list_part(reader, table, held, last, out, area);
     let from = d.consumed;
     pieces::move_down(held, from);
     d

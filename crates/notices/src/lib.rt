@@ -1,23 +1,10 @@
-// The lines in which no word is decoded: of a wrong header, of a refusal of the capture reader, and the last.
+// The lines that stay the same for every reader: of a wrong header, and the last.
 ghost use Prim.Native.Nat.{_+_, _≤_};
 ghost use lib.ListN.{length};
-ghost use Rattle.refusals.specs.Refusals.{numberOf};
 ghost use Rattle.text.specs.Texts.{Appended};
-ghost use Rattle.lines.specs.Lines.{billing, headerLine, lastLine};
+ghost use Rattle.lines.specs.Lines.{headerLine, lastLine};
 ghost use Rattle.pieces.specs.Pieces.{Puts};
 use refusals::Refusal;
-
-// The meter listing's line of a refusal of the capture reader: 16 has ten hyphens for the serial.
-pub fn refusal_line(why: Refusal, serial: u32, out: &mut [u8], at: usize) -> usize
-    requires { ⌜ at + 268 ≤ length (now out) ⌝ }
-    ensures { λ end. ⌜ Appended (now (out .entry)) at (billing .ofRefusal (numberOf why) serial) end (now (out .exit)) ⌝ }
-{
-    let number = refusals::number(why);
-    if number == 16 {
-        return lines::cut_line(out, at);
-    }
-    lines::refused_line(serial, number, out, at)
-}
 
 // The last line, put after what the output holds already.
 fn put_last(records: u64, accepted: u64, out: &mut [u8], at: usize) -> usize

@@ -1,9 +1,10 @@
-//! The listing program run as a person would run it: bytes to its standard input, text from its standard output.
+//! The listing programs run as a person would run them: bytes to standard input, text from standard output.
 
-use check::blocks::noisy;
+use check::blocks::{codeword, noisy};
 use check::random::Random;
 pub use check::tables::record;
-use second::profiles;
+use opponent::Reader;
+use second::{code, profiles};
 use std::io::{Read, Write};
 use std::path::PathBuf;
 use std::process::{Command, Stdio};
@@ -11,17 +12,21 @@ use std::thread;
 
 pub const HEADER: [u8; 5] = [b'W', b'M', b'R', 0, 1];
 
-/// Where `rt ci` and `rt check meter_list` put the program.
-pub fn program() -> PathBuf {
-    let path = PathBuf::from(env!("CARGO_MANIFEST_DIR")).join("../../target/bin/meter_list");
-    assert!(path.exists(), "{} is missing: run `rt check meter_list`", path.display());
+/// Where `rt ci` and `rt check NAME` put the reader's program.
+pub fn program(reader: Reader) -> PathBuf {
+    let name = match reader {
+        Reader::Billing => "meter_list",
+        Reader::Crew => "crew_list",
+    };
+    let path = PathBuf::from(env!("CARGO_MANIFEST_DIR")).join("../../target/bin").join(name);
+    assert!(path.exists(), "{} is missing: run `rt check {name}`", path.display());
     path
 }
 
 /// What the program prints for a capture that reaches it in pieces of so many bytes.
-pub fn listed_in_pieces(capture: &[u8], piece: usize) -> String {
+pub fn listed_in_pieces(reader: Reader, capture: &[u8], piece: usize) -> String {
     let mut child =
-        Command::new(program()).stdin(Stdio::piped()).stdout(Stdio::piped()).spawn().expect("the program starts");
+        Command::new(program(reader)).stdin(Stdio::piped()).stdout(Stdio::piped()).spawn().expect("the program starts");
     let mut input = child.stdin.take().expect("its input");
     let bytes = capture.to_vec();
     let writer = thread::spawn(move || {
@@ -39,8 +44,8 @@ pub fn listed_in_pieces(capture: &[u8], piece: usize) -> String {
     text
 }
 
-pub fn listed(capture: &[u8]) -> String {
-    listed_in_pieces(capture, 1 << 16)
+pub fn listed(reader: Reader, capture: &[u8]) -> String {
+    listed_in_pieces(reader, capture, 1 << 16)
 }
 
 /// A capture of so many records of one profile, noise from none to half the places.
@@ -54,4 +59,22 @@ pub fn capture(seed: u64, profile: usize, records: usize) -> Vec<u8> {
         bytes.extend(record(random.below(1 << 32) as u32, profile as u8, &word));
     }
     bytes
+}
+
+/// Two captures of one profile that agree in the serials; each block of the second has another codeword added to that of the first.
+pub fn pair(seed: u64, profile: usize, records: usize) -> (Vec<u8>, Vec<u8>) {
+    let mut random = Random::new(seed);
+    let p = profiles::profile(profile).expect("a profile of the table");
+    let mut both = (HEADER.to_vec(), HEADER.to_vec());
+    for i in 0..records {
+        let word = noisy(&mut random, p.m, p.r, (i << (p.m - 1)) / records);
+        let mut added = codeword(&mut random, p.m, p.r);
+        while added.iter().all(|&bit| bit == 0) {
+            added = codeword(&mut random, p.m, p.r);
+        }
+        let serial = random.below(1 << 32) as u32;
+        both.0.extend(record(serial, profile as u8, &word));
+        both.1.extend(record(serial, profile as u8, &code::sum(&word, &added)));
+    }
+    both
 }

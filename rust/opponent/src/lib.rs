@@ -23,6 +23,6 @@ mod workspace;
 pub use call::{check_decoding, Answer};
 pub use code::{encode, is_codeword, read_message};
 pub use decode::{decode, decode_profile};
-pub use listing::{listing, plain_listing};
+pub use listing::{listing, plain_listing, Reader};
 pub use profiles::{profile, Profile};
 pub use workspace::Workspace;

@@ -2,7 +2,7 @@
 use native.Mathlib.Omega.{arith}
 use mathlib.Core.Path.{ap, sym, _∙_}
 use Rattle.capture.specs.Capture.{answerOf}
-use Rattle.entries.specs.StepLaws.{found-start, found-word, record-decodable, step-none, step-refused, step-billed}
+use Rattle.entries.specs.StepLaws.{found-start, found-word, record-decodable, step-none, step-refused, step-record}
 use borrow.Author.Needs.{needs}
 use Rattle.entries.proofs.list_found.Statement.{statement}
 use Rattle.entries.proofs.list_found.Tie as tie
@@ -61,7 +61,7 @@ returns-3 c =
     let s = c .before .before .before .before .before .before .before .before .before .before .before .before .before .before .before .before .before .before .before .before .before .before .before in
     let f = c .before .before .before .before .before .before .before .before .before .before .before .before .before .before .before .before .before .record-in .ensures in
     let e = c .before .before .before .before .before .before .before .before .before .before .before .before .before .found2 .given .1 in
-    step-billed (omega arith) (found-start (s .pre .0) (s .pre .1) f ∙ ap answerOf e) (found-word (s .pre .0) (s .pre .1) f e) (c .before .before .before .before .before .before .before .record-line .ensures)
+    step-record (omega arith) (found-start (s .pre .0) (s .pre .1) f ∙ ap answerOf e) (found-word (s .pre .0) (s .pre .1) f e) (c .before .before .before .before .before .before .before .record-line .ensures)
 
 pub list-found-spec : {M : Type 1} → statement M
 list-found-spec =

@@ -11,7 +11,7 @@ use Rattle.words.specs.Parts.{front-length}
 use Rattle.tables.specs.Tables.{slotOf}
 use Rattle.tables.specs.Slots.{Proper, slot-proper, slot-read}
 use Rattle.capture.specs.Capture.{bodyLength, slotAt}
-use Rattle.lines.specs.Lines.{billing}
+use Rattle.readers.specs.Readers.{linesFor}
 use Rattle.pieces.specs.Pieces.{Piece}
 use Rattle.pieces.specs.PieceLaws.{joined, piece-none}
 use Rattle.pieces.specs.Steps.{Ready}
@@ -20,19 +20,19 @@ use Rattle.listing.proofs.list_in.Statement.{statement}
 use Rattle.listing.proofs.list_in.Tie as tie
 
 abbrev Inv-loop : tie.InvT-loop
-Inv-loop part last word₀ decoded₀ out₀ area₀ table d₀ word decoded out area d = (length word ≡ length word₀) × (length decoded ≡ length decoded₀) × (length out ≡ length out₀) × (length area ≡ length area₀) × Piece table billing (Ends last) part out₀ 0 out d × Lent table part area₀ area d
+Inv-loop reader part last word₀ decoded₀ out₀ area₀ table d₀ word decoded out area d = (length word ≡ length word₀) × (length decoded ≡ length decoded₀) × (length out ≡ length out₀) × (length area ≡ length area₀) × Piece table (linesFor reader) (Ends last) part out₀ 0 out d × Lent table part area₀ area d
 
 abbrev μ-loop : tie.MeasureT-loop
-μ-loop part last word₀ decoded₀ out₀ area₀ table d₀ word decoded out area d = left part d
+μ-loop reader part last word₀ decoded₀ out₀ area₀ table d₀ word decoded out area d = left part d
 
 -- what the table has at the profile of what is left
-looked : (c : tie.After-find Inv-loop μ-loop) → c .find .result ≡ slotAt (c .before .before .before .before .before .before .before .before .before .before .before .args .t1) (rest (c .before .before .before .before .before .before .before .before .before .before .before .args .part .now) (c .before .before .before .before .before .before .loop .d .consumed))
+looked : (c : tie.After-find Inv-loop μ-loop) → c .find .result ≡ slotAt (c .before .before .before .before .before .before .before .before .before .before .before .args .t2) (rest (c .before .before .before .before .before .before .before .before .before .before .before .args .part .now) (c .before .before .before .before .before .before .loop .d .consumed))
 looked c =
-    let t = c .before .before .before .before .before .before .before .before .before .before .before .args .t1 in
+    let t = c .before .before .before .before .before .before .before .before .before .before .before .args .t2 in
     c .find .ensures ∙ slot-read t (c .before .before .number-at .result) ∙ ap (slotOf t) (c .before .before .number-at .ensures)
 
 proper : (c : tie.After-find Inv-loop μ-loop) → Proper (c .find .result)
-proper c = subst Proper (sym (looked c)) (slot-proper (c .before .before .before .before .before .before .before .before .before .before .before .args .t1) _)
+proper c = subst Proper (sym (looked c)) (slot-proper (c .before .before .before .before .before .before .before .before .before .before .before .args .t2) _)
 
 -- what is left can be listed
 ready : (c : tie.Else2 Inv-loop μ-loop) → Ready (c .before .before .before .find .result) (rest (c .before .before .before .before .before .before .before .before .before .before .before .before .before .before .args .part .now) (c .before .before .before .before .before .before .before .before .before .loop .d .consumed)) (c .before .before .before .before .before .before .before .before .before .before .before .before .before .before .args .last) (length (c .before .before .before .before .before .before .before .before .before .loop .out) - c .before .before .before .before .before .before .before .before .before .loop .d .written) (length (c .before .before .before .before .before .before .before .before .before .loop .area))
@@ -44,12 +44,12 @@ fits c = lent-fits (eqb (c .before .before .before .before .before .before .befo
 
 -- after a turn's line
 next : (c : tie.After-list-one Inv-loop μ-loop)
-    → Piece (c .before .before .before .before .before .before .before .before .before .before .before .before .before .before .before .before .before .before .before .before .before .before .args .t1) billing (Ends (c .before .before .before .before .before .before .before .before .before .before .before .before .before .before .before .before .before .before .before .before .before .before .args .last)) (c .before .before .before .before .before .before .before .before .before .before .before .before .before .before .before .before .before .before .before .before .before .before .args .part .now) (c .before .before .before .before .before .before .before .before .before .before .before .before .before .before .before .before .before .before .before .before .before .before .args .out .now) 0 (c .list-one .last .1 .1 .1 .1 .0) (joined (c .before .before .before .before .before .before .before .before .before .before .before .before .before .before .before .before .before .loop .d) (c .list-one .result))
+    → Piece (c .before .before .before .before .before .before .before .before .before .before .before .before .before .before .before .before .before .before .before .before .before .before .args .t2) (linesFor (c .before .before .before .before .before .before .before .before .before .before .before .before .before .before .before .before .before .before .before .before .before .before .args .reader)) (Ends (c .before .before .before .before .before .before .before .before .before .before .before .before .before .before .before .before .before .before .before .before .before .before .args .last)) (c .before .before .before .before .before .before .before .before .before .before .before .before .before .before .before .before .before .before .before .before .before .before .args .part .now) (c .before .before .before .before .before .before .before .before .before .before .before .before .before .before .before .before .before .before .before .before .before .before .args .out .now) 0 (c .list-one .last .1 .1 .1 .1 .1 .0) (joined (c .before .before .before .before .before .before .before .before .before .before .before .before .before .before .before .before .before .loop .d) (c .list-one .result))
 next c = turn-piece (c .before .before .before .before .before .before .before .before .before .before .before .before .before .before .before .before .before .loop .inv .4) (not-true _ (c .before .before .before .before .before .before .before .before .before .before .before .before .before .before .before .if1 .taken)) (looked (c .before .before .before .before .before .before .before .before .before .before .before)) (ready (c .before .before .before .before .before .before .before .before)) (c .list-one .ensures)
 
 next-area : (c : tie.After-list-one Inv-loop μ-loop)
-    → Lent (c .before .before .before .before .before .before .before .before .before .before .before .before .before .before .before .before .before .before .before .before .before .before .args .t1) (c .before .before .before .before .before .before .before .before .before .before .before .before .before .before .before .before .before .before .before .before .before .before .args .part .now) (c .before .before .before .before .before .before .before .before .before .before .before .before .before .before .before .before .before .before .before .before .before .before .args .area .now) (putMid 0 (c .before .before .before .before .before .before .lent .result - 0) (c .before .before .before .before .before .before .before .before .before .before .before .before .before .before .before .before .before .loop .area) (c .list-one .last .1 .1 .1 .1 .1 .1 .0)) (joined (c .before .before .before .before .before .before .before .before .before .before .before .before .before .before .before .before .before .loop .d) (c .list-one .result))
-next-area c = turn-lent (c .before .before .before .before .before .before .before .before .before .before .before .before .before .before .before .before .before .loop .inv .5) (not-true _ (c .before .before .before .before .before .before .before .before .before .before .before .before .before .before .before .if1 .taken)) (c .before .before .before .before .before .before .lent .result) (c .list-one .ensures .under (c .before .before .before .before .before .before .before .before .before .before .before .before .before .before .before .before .before .before .before .before .before .before .args .t1) (looked (c .before .before .before .before .before .before .before .before .before .before .before))) _ (c .before .before .before .before .before .before .lent .ensures)
+    → Lent (c .before .before .before .before .before .before .before .before .before .before .before .before .before .before .before .before .before .before .before .before .before .before .args .t2) (c .before .before .before .before .before .before .before .before .before .before .before .before .before .before .before .before .before .before .before .before .before .before .args .part .now) (c .before .before .before .before .before .before .before .before .before .before .before .before .before .before .before .before .before .before .before .before .before .before .args .area .now) (putMid 0 (c .before .before .before .before .before .before .lent .result - 0) (c .before .before .before .before .before .before .before .before .before .before .before .before .before .before .before .before .before .loop .area) (c .list-one .last .1 .1 .1 .1 .1 .1 .1 .0)) (joined (c .before .before .before .before .before .before .before .before .before .before .before .before .before .before .before .before .before .loop .d) (c .list-one .result))
+next-area c = turn-lent (c .before .before .before .before .before .before .before .before .before .before .before .before .before .before .before .before .before .loop .inv .5) (not-true _ (c .before .before .before .before .before .before .before .before .before .before .before .before .before .before .before .if1 .taken)) (c .before .before .before .before .before .before .lent .result) (c .list-one .ensures .under (c .before .before .before .before .before .before .before .before .before .before .before .before .before .before .before .before .before .before .before .before .before .before .args .t2) (looked (c .before .before .before .before .before .before .before .before .before .before .before))) _ (c .before .before .before .before .before .before .lent .ensures)
 
 loop-holds : tie.Need-loop-holds Inv-loop μ-loop
 loop-holds c = (refl, refl, refl, refl, piece-none 0 (omega arith), lent-none _ _ _ 0)

@@ -1,3 +1,0 @@
--- What the functions ask and promise: Accepted. MessageLines has the laws.
-pub mod Accepted
-pub mod MessageLines

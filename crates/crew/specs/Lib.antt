@@ -1,0 +1,3 @@
+-- Definitions: Crew. CrewLaws has the laws.
+pub mod Crew
+pub mod CrewLaws

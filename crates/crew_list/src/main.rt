@@ -1,0 +1,6 @@
+// The crew's listing.
+use readers::Reader;
+
+fn main() {
+    programs::run(Reader::Crew);
+}

@@ -1,0 +1,2 @@
+-- Definitions: Readers.
+pub mod Readers
