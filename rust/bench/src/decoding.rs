@@ -29,9 +29,13 @@ impl<A: Copy, F: FnMut(&[u8], &mut [u8]) -> A> Runner for Decoding<F, A> {
     }
 }
 
-fn library<'a>(m: usize, decode: impl FnMut(&[u8], &mut [u8]) -> calls::Answer + 'a) -> Box<dyn Runner + 'a> {
+fn library<'a>(
+    name: &'static str,
+    m: usize,
+    decode: impl FnMut(&[u8], &mut [u8]) -> calls::Answer + 'a,
+) -> Box<dyn Runner + 'a> {
     let read = |a: calls::Answer| (a.refusal as u64, a.rounds as u64, a.leaves as u64);
-    Box::new(Decoding { name: "library", decode, out: vec![0; 1 << m], answer: calls::Answer::default(), read })
+    Box::new(Decoding { name, decode, out: vec![0; 1 << m], answer: calls::Answer::default(), read })
 }
 
 fn opponent<'a>(
@@ -98,11 +102,25 @@ impl Race {
         let mut area = vec![0; 8 << m];
         let (mut plain_work, mut packed_work) = (plain::Workspace::default(), Workspace::default());
         then(vec![
-            library(m, |word, out| calls::decode_profile(number, word, out, &mut area)),
+            library("library", m, |word, out| calls::decode_profile(number, word, out, &mut area)),
             opponent("plain", m, |word, out| plain::decode_profile(number, word, out, &mut plain_work)),
             opponent("packed", m, |word, out| opponent::decode_profile(number, word, out, &mut packed_work)),
         ])
     }
+
+    /// The gateway's call, which has working numbers of its own, and the library's, which is lent as many as the profile needs.
+    fn with_gateway<T>(&self, then: impl FnOnce(Vec<Box<dyn Runner + '_>>) -> T) -> T {
+        let (number, m) = (self.number, self.profile.m);
+        let mut area = vec![0; 8 << m];
+        then(vec![
+            library("gateway", m, |word, out| calls::Answer::unpacked(gateway::decode(number, word, out))),
+            library("library", m, |word, out| calls::decode_profile(number, word, out, &mut area)),
+        ])
+    }
+}
+
+pub fn gateway_races() -> Result<(), String> {
+    (0..RACES).map(Race::new).try_for_each(|r| r.with_gateway(|runners| race(&r.title(), runners, &r.blocks)))
 }
 
 pub fn races() -> Result<(), String> {

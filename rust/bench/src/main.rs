@@ -1,5 +1,5 @@
 //! Races of the library against the decoders written for speed, all in one run. The first argument says which:
-//! decode, codes, gap, listing or all; or instructions, which counts them and takes no time.
+//! decode, codes, gap, gateway, listing or all; or instructions, which counts them and takes no time.
 
 mod codes;
 mod decoding;
@@ -16,14 +16,16 @@ fn main() -> ExitCode {
         "decode" => decoding::races(),
         "codes" => codes::races(),
         "gap" => gaps::races(),
+        "gateway" => decoding::gateway_races(),
         "listing" => listings::races(),
         "all" => decoding::races()
             .and_then(|()| codes::races())
             .and_then(|()| gaps::races())
+            .and_then(|()| decoding::gateway_races())
             .and_then(|()| listings::races()),
         "instructions" => instructions::counts(),
         instructions::PASSES => instructions::passes(std::env::args().skip(2)),
-        _ => Err(format!("no races are named {which}: decode, codes, gap, listing, all or instructions")),
+        _ => Err(format!("no races are named {which}: decode, codes, gap, gateway, listing, all or instructions")),
     };
     match raced {
         Ok(()) => ExitCode::SUCCESS,

@@ -125,6 +125,17 @@ pub fn many(c: &mut Comparison, seed: u64, calls: usize) -> Result<(), Disagreem
     Ok(())
 }
 
+/// The same of encoder, message reader and decoder by profile alone.
+pub fn by_profile(c: &mut Comparison, seed: u64, calls: usize) -> Result<(), Disagreement> {
+    for rarity in [3, 8] {
+        let mut chooser = Chooser { random: Random::new(seed + rarity as u64), rarity };
+        for i in 0..calls {
+            c.call(&if i % 3 == 2 { chooser.profile_call() } else { chooser.code_call(i % 3) })?;
+        }
+    }
+    Ok(())
+}
+
 /// The calls on a word with bad bytes; at order m a message is as long as a word.
 fn every_call(c: &mut Comparison, m: usize, word: &[u8]) -> Result<(), Disagreement> {
     c.call(&Call::decode(m, m.min(2), 1, 1, word))?;

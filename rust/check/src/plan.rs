@@ -35,6 +35,19 @@ fn directed_beyond(c: &mut Comparison) -> Result<(), Disagreement> {
     tallies::long(c, 97, 400, 18)
 }
 
+/// What a layer goes through that has the calls by profile alone, and encodes and reads messages.
+pub fn by_profile(c: &mut Comparison) -> Result<(), Disagreement> {
+    (1..=3).try_for_each(|m| code_calls::every(c, m))?;
+    (1..=6).try_for_each(|m| code_calls::monomials(c, m))?;
+    (4..=10).try_for_each(|m| code_calls::sampled(c, 2_200 + m as u64, m, 4))?;
+    bad_calls::by_profile(c, 2_300, 6_000)?;
+    (0..5).try_for_each(|number| bad_calls::each_profile(c, number))?;
+    for (number, count) in [1_000, 200, 100, 30, 2].into_iter().enumerate() {
+        blocks::by_profile(c, 2_400 + number as u64, number, count)?;
+    }
+    Ok(())
+}
+
 pub type Part = (&'static str, fn(&mut Comparison) -> Result<(), Disagreement>);
 
 /// The whole comparison by parts.
