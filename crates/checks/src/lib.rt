@@ -2,12 +2,12 @@
 ghost use mathlib.Core.List.{[], _++_};
 ghost use Prim.Native.Nat.{_≤_};
 ghost use Rattle.refusals.specs.Refusals.{Checked, codeChecks};
-ghost use Rattle.rule.specs.Decoding.{limitChecks, bufferChecks};
+ghost use Rattle.rule.specs.Decoding.{limitChecks, sizeChecks, bufferChecks};
 use refusals::Answer;
 use refusals::Refusal;
 
 // 3 and 4: the limits.
-fn limits(rounds: usize, leaves: usize) -> Answer
+pub fn limits(rounds: usize, leaves: usize) -> Answer
     ensures { λ a. ⌜ Checked (limitChecks rounds leaves) [] a ⌝ }
 {
     if rounds < 1 {
@@ -25,20 +25,31 @@ fn limits(rounds: usize, leaves: usize) -> Answer
     Answer::Done
 }
 
+// 5 to 7: input and output of n places, and at least so many numbers.
+pub fn sizes(n: usize, least: usize, size: usize, room: usize, area: usize) -> Answer
+    ensures { λ a. ⌜ Checked (sizeChecks n least size room area) [] a ⌝ }
+{
+    if size != n {
+        return Answer::Refused(Refusal::InputLength);
+    }
+    if room != n {
+        return Answer::Refused(Refusal::OutputLength);
+    }
+    if area < least {
+        return Answer::Refused(Refusal::AreaLength);
+    }
+    Answer::Done
+}
+
 // 5 to 8: the buffers of a call at exponent m.
 pub fn buffers(m: usize, word: &[u8], room: usize, area: usize) -> Answer
     requires { ⌜ m ≤ 10 ⌝ }
     ensures { λ a. ⌜ Checked (bufferChecks m (now (word .entry)) room area) (now (word .entry)) a ⌝ }
 {
     let n = words::size(m);
-    if word.len() != n {
-        return Answer::Refused(Refusal::InputLength);
-    }
-    if room != n {
-        return Answer::Refused(Refusal::OutputLength);
-    }
-    if area < 8 * n {
-        return Answer::Refused(Refusal::AreaLength);
+    let sizes = sizes(n, 8 * n, word.len(), room, area);
+    if let Answer::Refused(why) = sizes {
+        return Answer::Refused(why);
     }
     code_checks::check_bytes(word)
 }

@@ -32,7 +32,7 @@ use Rattle.rule.specs.Outcomes.{CodewordIn}
 use Rattle.rule.specs.Counts.{leaf-most, reading-leaf}
 use Rattle.told.specs.Told.{noiseNumber, numbersOf, numbersIn, Holds, Kept, Read}
 use Rattle.told.specs.declared.Told.{Told}
-use Rattle.told.specs.ToldLaws.{noise-number}
+use Rattle.told.specs.ToldLaws.{noise-clears, noise-number}
 use Rattle.told.specs.declared.Verdict.{Verdict}
 use Rattle.direct.specs.Direct.{Readable, Gives}
 use Rattle.readings.specs.Readings.{Ready}
@@ -154,9 +154,7 @@ module _ {m r rounds leaves : ℕ} {word out : List ℕ} {xs : List ℤ} (runs :
 area-cleared : (xs : List ℤ) (a : Verdict) (o : Outcome) → Numbered o → numbersIn a ≡ numbersOf o → areaOf o xs ≡ zeros xs
 area-cleared xs =
     by-answer (λ (x : Verdict) (y : Outcome). areaOf y xs ≡ zeros xs) (λ d k l. refl)
-    (λ why k l.
-    let not : (e : ℕ) → 13 < e → noiseNumber why ≡ e → ⊥ = λ e h z. omega (arith, noise-number why) in
-    rw (lt-leb (noiseNumber why) 8 (omega (arith, noise-number why)), ne-eqb (noiseNumber why) 14 (not 14 (omega arith)), ne-eqb (noiseNumber why) 18 (not 18 (omega arith)), ne-eqb (noiseNumber why) 27 (not 27 (omega arith))))
+    (λ why k l. rw (noise-clears why))
 
 not-8 : (a : Verdict) (o : Outcome) → Numbered o → numbersIn a ≡ numbersOf o → refusalOf o ≡ 8 → ⊥
 not-8 = by-answer (λ (x : Verdict) (y : Outcome). refusalOf y ≡ 8 → ⊥) (λ d k l z. omega arith) (λ why k l z. omega (arith, noise-number why))

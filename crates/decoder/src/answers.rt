@@ -1,27 +1,12 @@
 // A call's answer from its reading's.
 ghost use mathlib.Core.Path.{_≡_};
 ghost use Prim.Native.Nat.{_≤_};
-ghost use Rattle.refusals.specs.Refusals.{numberOf, placeOf};
 ghost use Rattle.rule.specs.Calls.{valuesOf, decodedPlace};
-ghost use Rattle.told.specs.Told.{noiseNumber};
 ghost use Rattle.decoder.specs.Verdicts.{valuesIn, Mendable};
+use delivery::refusal_of;
 use refusals::Decoded;
-use refusals::Refusal;
-use told::Noise;
 use told::Told;
 use told::Verdict;
-
-// The refusal of a call whose reading gives no word.
-fn refusal_of(noise: Noise) -> Refusal
-    ensures { λ why. ⌜ (numberOf why ≡ noiseNumber noise) × (placeOf why ≡ 0) ⌝ }
-{
-    match noise {
-        Noise::Tie => Refusal::Tie,
-        Noise::Flipping => Refusal::Flipping,
-        Noise::Unsettled => Refusal::Unsettled,
-        Noise::TooManyLeaves => Refusal::TooManyLeaves,
-    }
-}
 
 // The answer of a call that passed its checks. A word that its reading kept has no place mended.
 pub fn answered(told: Told, m: usize, word: &[u8], out: &[u8]) -> Decoded

@@ -1,7 +1,11 @@
-// The decoded word from the area to the output.
+// What a reading tells, handed to the caller: the decoded word to the output, and the refusal.
+use refusals::Refusal;
+use told::Noise;
 use told::Verdict;
 ghost use mathlib.Core.Path.{_≡_};
 ghost use lib.ListN.{length};
+ghost use Rattle.refusals.specs.Refusals.{numberOf, placeOf};
+ghost use Rattle.told.specs.Told.{noiseNumber};
 ghost use Rattle.delivery.specs.Delivery.{Deliverable, delivered};
 
 // The decoded word, where there is one, to the output.
@@ -14,5 +18,18 @@ pub fn deliver(answer: Verdict, area: &[i32], out: &mut [u8])
             area::store(area, out);
         }
         Verdict::Refused(_, _, _) => {}
+    }
+}
+
+// The refusal of a call whose reading gives no word; which place it names, where it names one, is for the caller to say.
+pub fn refusal_of(noise: Noise) -> Refusal
+    ensures { λ why. ⌜ (numberOf why ≡ noiseNumber noise) × (placeOf why ≡ 0) ⌝ }
+{
+    match noise {
+        Noise::Tie => Refusal::Tie,
+        Noise::Flipping => Refusal::Flipping,
+        Noise::Unsettled => Refusal::Unsettled,
+        Noise::TooManyLeaves => Refusal::TooManyLeaves,
+        Noise::Erased => Refusal::Erased(0),
     }
 }

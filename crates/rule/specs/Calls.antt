@@ -19,9 +19,14 @@ abbrev pub decodedPlace : Decoded → ℕ
 decodedPlace (Accepted k l c) = 0
 decodedPlace (Refused why k l) = placeOf why
 
--- a call that the outcome o is the answer of, at exponent m: its answer d, the output and the area before and after
-pub record Decodes (m : ℕ) (o : Outcome) (word out out′ : List ℕ) (area area′ : List ℤ) (d : Decoded) : Type 0 where
+-- a call that the outcome o is the answer of, on a word of exponent m, which names the place p: its answer d, the output and the area
+-- before and after
+pub record Answers (m : ℕ) (o : Outcome) (word : List ℕ) (p : ℕ) (out out′ : List ℕ) (area area′ : List ℤ) (d : Decoded) : Type 0 where
   pub answer : valuesOf d ≡ answerOf m word o
-  pub place : decodedPlace d ≡ placeNamed word (refusalOf o)
+  pub place : decodedPlace d ≡ p
   pub output : out′ ≡ outputOf o out
   pub lent : area′ ≡ areaOf o area
+
+-- a call of the decoder: of a refusal, only 8 names a place
+abbrev pub Decodes : ℕ → Outcome → List ℕ → List ℕ → List ℕ → List ℤ → List ℤ → Decoded → Type 0
+Decodes m o word out out′ area area′ d = Answers m o word (placeNamed word (refusalOf o)) out out′ area area′ d

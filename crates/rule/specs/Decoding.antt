@@ -21,10 +21,13 @@ abbrev pub limitChecks : ℕ → ℕ → List Check
 limitChecks rounds leaves =
     check 3 (leb 1 rounds) ∷ check 3 (leb rounds 16) ∷ check 4 (leb 1 leaves) ∷ check 4 (leb leaves 1000000) ∷ []
 
--- "5: input is not n long. 6: output is not n long. 7: working area shorter than 8 × n numbers." Then 8.
+-- "5: input is not n long. 6: output is not n long. 7: working area shorter" than so many numbers
+abbrev pub sizeChecks : ℕ → ℕ → ℕ → ℕ → ℕ → List Check
+sizeChecks n least size room area = check 5 (eqb size n) ∷ check 6 (eqb room n) ∷ check 7 (leb least area) ∷ []
+
+-- "7: working area shorter than 8 × n numbers." Then 8.
 abbrev pub bufferChecks : ℕ → List ℕ → ℕ → ℕ → List Check
-bufferChecks m word room area =
-    check 5 (eqb (length word) (2 ^ m)) ∷ check 6 (eqb room (2 ^ m)) ∷ check 7 (leb (8 * 2 ^ m) area) ∷ byteChecks word
+bufferChecks m word room area = sizeChecks (2 ^ m) (8 * 2 ^ m) (length word) room area ++ byteChecks word
 
 -- "14: profile number above 4."
 abbrev pub profileChecks : ℕ → List Check

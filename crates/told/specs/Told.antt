@@ -7,17 +7,19 @@ use lib.IntN.{ℤ}
 use Rattle.area.specs.Area.{Front, SameFront}
 use Rattle.rule.specs.Reading.{Outcome, accepted, refused}
 use Rattle.told.specs.declared.Noise.{Noise}
-use Rattle.told.specs.declared.Noise.the-variants.{Tie, Flipping, Unsettled, TooManyLeaves}
+use Rattle.told.specs.declared.Noise.the-variants.{Tie, Flipping, Unsettled, TooManyLeaves, Erased}
 use Rattle.told.specs.declared.Verdict.{Verdict}
 use Rattle.told.specs.declared.Verdict.the-variants.{Accepted, Refused}
 use Rattle.told.specs.declared.Told.{Told}
 
 -- "9: tie at the order asked for, 0 or 1. 10: still flipping at the round limit. 11: settled on no codeword. 12: leaf limit too small."
+-- Document 02, request 2: "17, a place ends with value 0 after the last round"
 abbrev pub noiseNumber : Noise → ℕ
 noiseNumber Tie = 9
 noiseNumber Flipping = 10
 noiseNumber Unsettled = 11
 noiseNumber TooManyLeaves = 12
+noiseNumber Erased = 17
 
 -- a refusal's number, 0 where accepted; the rounds; the leaf count
 pub data Numbers : Type 0 where

@@ -5,22 +5,32 @@ use mathlib.Core.Path.{_≡_, refl, sym, subst, _∙_}
 use mathlib.Core.Bool.{true, false, false≢true}
 use mathlib.Core.List.{List}
 use lib.IntN.{ℤ}
+use Rattle.refusals.specs.Refusals.{areaKept}
 use Rattle.rule.specs.Reading.{Outcome, leavesOf}
 use Rattle.rule.specs.Decoding.{limited}
 use Rattle.rule.specs.DecodingLaws.{limited-above, limited-within}
 use Rattle.told.specs.Told.{noiseNumber, numbersOf, numbersIn, Holds, Read, Kept}
 use Rattle.told.specs.declared.Noise.{Noise}
-use Rattle.told.specs.declared.Noise.the-variants.{Tie, Flipping, Unsettled, TooManyLeaves}
+use Rattle.told.specs.declared.Noise.the-variants.{Tie, Flipping, Unsettled, TooManyLeaves, Erased}
 use Rattle.told.specs.declared.Verdict.{Verdict}
 use Rattle.told.specs.declared.Verdict.the-variants.{Refused}
 use Rattle.told.specs.declared.Told.{Told}
 
--- the noise is 9 to 12
-pub noise-number : (why : Noise) → (9 ≤ noiseNumber why) × (noiseNumber why ≤ 12)
-noise-number Tie = (omega arith, omega arith)
-noise-number Flipping = (omega arith, omega arith)
-noise-number Unsettled = (omega arith, omega arith)
-noise-number TooManyLeaves = (omega arith, omega arith)
+-- the noise is 9 and above
+pub noise-number : (why : Noise) → 9 ≤ noiseNumber why
+noise-number Tie = omega arith
+noise-number Flipping = omega arith
+noise-number Unsettled = omega arith
+noise-number TooManyLeaves = omega arith
+noise-number Erased = omega arith
+
+-- and the area is all zero after it
+pub noise-clears : (why : Noise) → areaKept (noiseNumber why) ≡ false
+noise-clears Tie = refl
+noise-clears Flipping = refl
+noise-clears Unsettled = refl
+noise-clears TooManyLeaves = refl
+noise-clears Erased = refl
 
 -- an answer that says nothing of the word given
 module _ {a : Verdict} {t : Told} (e : (t .answer ≡ a) × (t .kept ≡ false)) where

@@ -2,12 +2,13 @@
 ghost use mathlib.Core.Bool.{false};
 ghost use mathlib.Core.Path.{_≡_};
 
-// Document 01, "The noise": why a reading gives no word.
+// Document 01, "The noise": why a reading gives no word. Of document 02's confidences, that one of them ended as 0.
 pub enum Noise {
     Tie,
     Flipping,
     Unsettled,
     TooManyLeaves,
+    Erased,
 }
 
 // What a reading answers, with its rounds and its leaf count.

@@ -8,7 +8,7 @@ use borrow.Author.Needs.{needs}
 use Rattle.told.proofs.Noise.{the-type}
 use Rattle.told.specs.Told.{numbersIn}
 use Rattle.told.specs.declared.Noise.{Noise}
-use Rattle.told.specs.declared.Noise.the-variants.{Tie, Flipping, Unsettled, TooManyLeaves}
+use Rattle.told.specs.declared.Noise.the-variants.{Tie, Flipping, Unsettled, TooManyLeaves, Erased}
 use Rattle.told.specs.declared.Verdict.the-variants.{Refused}
 use Rattle.steps.specs.Steps.{countIn}
 use Rattle.steps.specs.declared.Count.the-variants.{Done}
@@ -17,7 +17,7 @@ use Rattle.steps.proofs.abstain.Tie as tie
 
 -- the places from 0 of the cases other than TooManyLeaves
 abbrev others : List ℕ
-others = 0 ∷ 1 ∷ 2 ∷ []
+others = 0 ∷ 1 ∷ 2 ∷ 4 ∷ []
 
 -- each of them abstains
 other-abstains : (why : Noise) → OneOf others (tagOf the-type why) → (k l : ℕ) → Done l 1 ≡ countIn (numbersIn (Refused why k l))
@@ -25,6 +25,7 @@ other-abstains Tie h k l = refl
 other-abstains Flipping h k l = refl
 other-abstains Unsettled h k l = refl
 other-abstains TooManyLeaves h k l = absurd (miss others 3 tt h)
+other-abstains Erased h k l = refl
 
 enum-told : tie.Need-enum-told
 enum-told c = search needs
