@@ -18,6 +18,7 @@
  *   rm_decode_table      n, word      n        8 n or more   n of the table's entry
  *   rm_decode_made       n, word      n        8 n or more   n of the table's entry
  *   rm_record            any          n                      n of the record's profile
+ *   rm_load_block                     n                      n of the profile
  *
  *   profile     0     1     2     3     4
  *   m, r      5,1   6,2   7,2   8,2   8,3
@@ -72,6 +73,9 @@ enum rm_refusals {
     /* of whoever wrote the table file */
     RM_TABLE_FILE = 19,     /* mark, version, count or length wrong */
     RM_TABLE_ENTRY = 20,    /* an entry outside the limits; the answer names the first */
+    /* in rm_load_block alone */
+    RM_LOAD_START = 21,     /* a state of 0 */
+    RM_WRONG_PLACES = 22,   /* more wrong places asked than n */
     /* in rm_tallies alone */
     RM_UNKNOWN_NAME = 25,   /* no tally has that name, when returning or dropping */
     RM_NAMES_FULL = 26      /* sixteen other names are held, when saving */
@@ -145,6 +149,21 @@ static inline unsigned rm_record_profile(uint64_t answer) {
 
 /* Of rm_record: the serial, with a record, with 14 and with 6; else 0. */
 static inline uint32_t rm_record_serial(uint64_t answer) {
+    return (uint32_t)(answer >> 32);
+}
+
+/* Draws one block of a load from a state: a message, one step of the generator a bit, its codeword, and places, at most n steps, until `wrong`
+ * different ones are wrong. The next block of the load is this call with the state after; once a block was drawn, none is refused. Its answer
+ * has other numbers, below. Refused 14, 21, 22 or 6: the state after is the one given, and the word is as it was. */
+uint64_t rm_load_block(size_t profile, uint32_t state, size_t wrong, uint8_t *word, size_t word_len);
+
+/* Of rm_load_block, beside rm_refusal: 1 where the block was left short, with fewer places wrong than asked. */
+static inline unsigned rm_left_short(uint64_t answer) {
+    return (unsigned)(answer >> 8 & 255);
+}
+
+/* Of rm_load_block: the state after. */
+static inline uint32_t rm_load_state(uint64_t answer) {
     return (uint32_t)(answer >> 32);
 }
 

@@ -1,4 +1,5 @@
-/* Document 01's meter bench values, some gaps, a table and a script of tallies, called from C: ends with 0 only where every one of them holds.
+/* Document 01's meter bench values, some gaps, a table, a script of tallies and blocks of a load, called from C: ends with 0 only where every one
+ * of them holds.
  * It is C++ as well.
  *
  *   rt staticlib harness && cc -Iinclude samples/bench_values.c target/staticlib/libharness.a -o target/bench_values && target/bench_values
@@ -189,6 +190,25 @@ static void tallies(void) {
     expect(rm_tallies(bytes, length, answers, 8, tally, 31) == (uint64_t)-1, "a script", "a tally of 31 counts");
 }
 
+/* Document 02, request 9: the first block of the load that the program writes, one left short, and the refusals in their order. */
+static void load(void) {
+    uint64_t answer;
+    filled();
+    answer = rm_load_block(1, 1, 3, out, 64);
+    expect(rm_refusal(answer) == 0 && rm_left_short(answer) == 0 && rm_load_state(answer) == 44632818, "a block", "the answer");
+    expect(output_is("0011110000000001011010011010101001100110101101011110110011110000", 64), "a block", "the word");
+    answer = rm_load_block(0, 1, 32, out, 32);
+    expect(rm_refusal(answer) == 0 && rm_left_short(answer) == 1 && rm_load_state(answer) == 1149571554, "a short block", "the answer");
+    expect(output_is("11011111001111110100111010111110", 32), "a short block", "the word");
+    filled();
+    expect(rm_load_block(5, 0, 65, out, 0) == RM_PROFILE, "a load", "14");
+    expect(rm_load_block(1, 0, 65, out, 0) == RM_LOAD_START, "a load", "21");
+    answer = rm_load_block(1, 9, 65, out, 0);
+    expect(rm_refusal(answer) == RM_WRONG_PLACES && rm_load_state(answer) == 9, "a load", "22");
+    answer = rm_load_block(1, 9, 64, out, 63);
+    expect(rm_refusal(answer) == RM_OUTPUT_LENGTH && rm_load_state(answer) == 9 && output_is(NULL, 64), "a load", "6");
+}
+
 /* Each number of an answer by itself, and the place of a bad byte. */
 static void numbers(void) {
     uint64_t answer = (uint64_t)12 | (uint64_t)5 << 8 | (uint64_t)1000000 << 16 | (uint64_t)1024 << 40 | (uint64_t)1023 << 52;
@@ -208,6 +228,7 @@ int main(void) {
     gaps();
     tables();
     tallies();
+    load();
     numbers();
     if (failures == 0) puts("the bench values hold");
     return failures != 0;

@@ -1,4 +1,4 @@
--- "k the sum of the binomials of m over 0 to r", and each binomial from the one before. Assumes nothing.
+-- "k the sum of the binomials of m over 0 to r", at most n, and each binomial from the one before. Assumes nothing.
 use Prim.Native.Nat.{ℕ, zero, suc, _+_, _*_, _-_, _/_, _^_, _≤_}
 use native.Mathlib.Nat.{add-zero, add-mul, mul-add, mul-suc, mul-div-cancel, pow-le-pow-right}
 use native.Mathlib.Numerals.{add-one}
@@ -7,11 +7,13 @@ use mathlib.Core.Path.{_≡_, refl, sym, ap, ap₂, _∙_}
 use mathlib.Core.Bool.{Bool}
 use lib.Dec.{leb, leb·zero, leb·suc-zero, leb·suc-suc}
 use lib.Count.{ones}
+use lib.Pow.{pow-mono}
 use Rattle.code.specs.Code.{degree, dimension, rank}
 use Rattle.words.specs.Sum.{sumBelow, total}
-use Rattle.words.specs.SumLaws.{sum-ext, sum-halves, sum-zero}
+use Rattle.words.specs.SumLaws.{sum-ext, sum-halves, sum-most, sum-zero}
 use Rattle.words.specs.TopBit.{ones-top}
 use Rattle.words.specs.Word.{indicator}
+use Rattle.words.specs.WordLaws.{indicator-lt}
 
 -- n over k
 unfoldable pub choose : ℕ → ℕ → ℕ
@@ -51,6 +53,14 @@ unfolding dimension rank total ones choose
 dimension-choose zero r = (ap (λ (t : Bool). 0 + indicator t) (leb·zero r) ∙ sym (choose-zero r))
 dimension-choose (suc m) zero = dimension-constant m ∙ dimension-choose m zero
 dimension-choose (suc m) (suc r) = dimension-suc m r ∙ ap₂ _+_ (dimension-choose m (suc r)) (dimension-choose m r) ∙ sym (choose-sum m r)
+
+-- a message is at most as long as a word
+pub dimension-size : (m r : ℕ) → dimension m r ≤ 2 ^ m
+unfolding dimension rank
+dimension-size m r = omega (arith, sum-most (2 ^ m) 1 (λ B. indicator (leb (degree B) r)) (λ B l. omega (arith, indicator-lt (leb (degree B) r))))
+
+pub dimension-most : (m r : ℕ) → m ≤ 10 → dimension m r ≤ 1024
+dimension-most m r h = omega (arith, dimension-size m r, pow-mono h)
 
 -- ---- binomials one after the other
 

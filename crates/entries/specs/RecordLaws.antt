@@ -22,7 +22,8 @@ use Rattle.rule.specs.DecodingLaws.{call-is, limited-cases}
 use Rattle.rule.specs.Demand3.{Sound, decode-sound}
 use Rattle.rule.specs.Calls.{Decodes}
 use Rattle.lines.specs.Lines.{Lines, entry, acceptedBy, acceptedIn, decodedBy, recordEntry}
-use Rattle.billing.specs.MessageLines.{codeword-passes, dimension-most}
+use Rattle.code.specs.Dimension.{dimension-most}
+use Rattle.billing.specs.MessageLines.{codeword-passes}
 use Rattle.table_decoder.specs.TableLaws.{entry-passes}
 use Rattle.billing.specs.Accepted.{Answered}
 use Rattle.billing.specs.AnswerLaws.{answered-accepted, answered-refused}

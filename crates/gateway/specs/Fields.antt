@@ -11,10 +11,11 @@ use lib.Pow.{pow-mono}
 use borrow.Author.Tests.{eqb-true, eqb-false, ltb-true, not-true, le-leb}
 use Rattle.words.specs.Search.{lowest-within}
 use Rattle.words.specs.SumLaws.{both-true, sum-most, le-or-lt}
-use Rattle.words.specs.Word.{differs, distance, indicator}
+use Rattle.words.specs.Word.{differs, distance}
 use Rattle.refusals.specs.CheckLaws.{bad-place, code-passed, other-place, passed, passes}
 use Rattle.refusals.specs.Refusals.{Check, byteChecks, check, codeChecks, firstRefusal, placeNamed}
-use Rattle.code.specs.Code.{degree, dimension, rank}
+use Rattle.code.specs.Code.{dimension}
+use Rattle.code.specs.Dimension.{dimension-most}
 use Rattle.codec_checks.specs.Checks.{encodeChecks, readChecks}
 use Rattle.profiles.specs.declared.Profile.{Profile}
 use Rattle.profiles.specs.Profiles.{profileOf}
@@ -109,15 +110,6 @@ named s cs ds k w bound = go (eqb n 8) refl
         rw (at, bad-place s) (omega (arith, lowest-within s, eqb-true (length s) k (five .0), bound (b .0)))
 
 -- ---- encoder and message reader
-
--- a message is at most as long as a word
-dimension-most : (m r : ℕ) → m ≤ 10 → dimension m r ≤ 1024
-unfolding dimension rank
-dimension-most m r h = omega (arith, sum-most (2 ^ m) 1 (λ B. indicator (leb (degree B) r)) (λ i l. one (leb (degree i) r)), pow-mono h)
-  where
-    one : (t : Bool) → indicator t ≤ 1
-    one true = omega arith
-    one false = omega arith
 
 -- the code's checks passed
 code-most : (m r : ℕ) → firstRefusal (codeChecks m r) ≡ 0 → m ≤ 10

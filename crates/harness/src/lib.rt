@@ -8,6 +8,7 @@ ghost use Rattle.rule.specs.Decoding.{decodeCall, decodeProfileCall};
 ghost use Rattle.packing.specs.Packing.{Returns, ReturnsDecoded, ReturnsGap, packTest};
 
 mod by_table;
+mod load_calls;
 mod tally_calls;
 
 #[no_mangle]

@@ -1,5 +1,7 @@
--- Definitions: Packing, ByTable. PackingLaws and ByTableLaws have laws.
+-- Definitions: Packing, ByTable, Loads. PackingLaws, ByTableLaws and LoadLaws have laws.
 pub mod Packing
 pub mod PackingLaws
 pub mod ByTable
 pub mod ByTableLaws
+pub mod Loads
+pub mod LoadLaws

@@ -12,6 +12,7 @@ use refusals::Answer;
 use refusals::Decoded;
 
 pub mod by_table;
+pub mod loads;
 
 fn pack(number: u8, rounds: usize, leaves: usize, mended: usize, place: usize) -> u64
     ensures { λ x. ⌜ x ≡ Rattle.packing.specs.Packing.pack number rounds leaves mended place ⌝ }

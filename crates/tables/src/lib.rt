@@ -83,6 +83,22 @@ pub fn look(t: Table, number: usize) -> Slot
     find(t.count, number, t.entries[number % 32])
 }
 
+// What document 01's table has at a number, without making the table.
+pub fn look_ours(number: usize) -> Slot
+    ensures { λ s. ⌜ s ≡ slotOf Rattle.tables.specs.Tables.ours number ⌝ }
+{
+    if 4 < number {
+        return Slot {
+            known: false,
+            profile: no_entry(),
+        };
+    }
+    Slot {
+        known: true,
+        profile: profiles::by_number(number),
+    }
+}
+
 // Document 01's table.
 pub fn ours() -> Table
     ensures { λ t. ⌜ t ≡ Rattle.tables.specs.Tables.ours ⌝ }

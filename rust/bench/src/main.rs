@@ -1,11 +1,12 @@
 //! Races of the library against the decoders written for speed, all in one run. The first argument says which:
-//! decode, codes, gap, gateway, listing or all; or instructions, which counts them and takes no time.
+//! decode, codes, gap, load, gateway, listing or all; or instructions, which counts them and takes no time.
 
 mod codes;
 mod decoding;
 mod gaps;
 mod instructions;
 mod listings;
+mod loads;
 mod race;
 
 use std::process::ExitCode;
@@ -16,16 +17,20 @@ fn main() -> ExitCode {
         "decode" => decoding::races(),
         "codes" => codes::races(),
         "gap" => gaps::races(),
+        "load" => loads::races(),
         "gateway" => decoding::gateway_races(),
         "listing" => listings::races(),
         "all" => decoding::races()
             .and_then(|()| codes::races())
             .and_then(|()| gaps::races())
+            .and_then(|()| loads::races())
             .and_then(|()| decoding::gateway_races())
             .and_then(|()| listings::races()),
         "instructions" => instructions::counts(),
         instructions::PASSES => instructions::passes(std::env::args().skip(2)),
-        _ => Err(format!("no races are named {which}: decode, codes, gap, gateway, listing, all or instructions")),
+        _ => {
+            Err(format!("no races are named {which}: decode, codes, gap, load, gateway, listing, all or instructions"))
+        }
     };
     match raced {
         Ok(()) => ExitCode::SUCCESS,

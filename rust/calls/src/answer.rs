@@ -42,9 +42,25 @@ impl Found {
     }
 }
 
+/// A block of a load. Lowest first: refusal or 0 in 8 bits, 1 where it was left short in 8, 0 in 16, the state after in 32.
+#[derive(Clone, Copy, PartialEq, Eq, Debug, Default)]
+pub struct Drawn {
+    pub refusal: u8,
+    pub short: u8,
+    pub unused: u16,
+    pub state: u32,
+}
+
+impl Drawn {
+    #[inline]
+    pub fn unpacked(bits: u64) -> Drawn {
+        Drawn { refusal: bits as u8, short: (bits >> 8) as u8, unused: (bits >> 16) as u16, state: (bits >> 32) as u32 }
+    }
+}
+
 #[cfg(test)]
 mod tests {
-    use super::{Answer, Found};
+    use super::{Answer, Drawn, Found};
 
     #[test]
     fn each_field_by_itself() {
@@ -57,5 +73,12 @@ mod tests {
     fn each_field_of_a_record() {
         let found = Found { refusal: 6, none_left: 1, profile: 31, unused: 0, serial: 4_000_000_017 };
         assert_eq!(Found::unpacked(6 | 1 << 8 | 31 << 16 | 4_000_000_017 << 32), found);
+    }
+
+    #[test]
+    fn each_field_of_a_block() {
+        let drawn = Drawn { refusal: 22, short: 1, unused: 0, state: 4_000_000_017 };
+        assert_eq!(Drawn::unpacked(22 | 1 << 8 | 4_000_000_017 << 32), drawn);
+        assert_eq!(Drawn::unpacked(1 << 31).unused, 1 << 15);
     }
 }

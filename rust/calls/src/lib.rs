@@ -3,7 +3,7 @@
 
 mod answer;
 
-pub use answer::{Answer, Found};
+pub use answer::{Answer, Drawn, Found};
 
 extern "C" {
     fn rm_encode(m: usize, r: usize, message: *const u8, message_len: usize, out: *mut u8, out_len: usize) -> u64;
@@ -72,6 +72,7 @@ extern "C" {
         tally: *mut u32,
         tally_len: usize,
     ) -> u64;
+    fn rm_load_block(profile: usize, state: u32, wrong: usize, word: *mut u8, word_len: usize) -> u64;
 }
 
 #[inline]
@@ -173,4 +174,11 @@ pub fn tallies(script: &[u8], answers: &mut [u8], tally: &mut [u32]) -> u64 {
     let (tally, tally_len) = (tally.as_mut_ptr(), tally.len());
     // SAFETY: as for `encode`.
     unsafe { rm_tallies(script, script_len, answers, answers_len, tally, tally_len) }
+}
+
+/// Draws one block of a load from a state.
+#[inline]
+pub fn load_block(profile: usize, state: u32, wrong: usize, word: &mut [u8]) -> Drawn {
+    // SAFETY: as for `encode`.
+    Drawn::unpacked(unsafe { rm_load_block(profile, state, wrong, word.as_mut_ptr(), word.len()) })
 }

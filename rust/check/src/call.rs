@@ -5,7 +5,7 @@ use crate::lent;
 use second::profiles::Profile;
 use std::fmt;
 
-/// `out` and `area` are lengths, and so is the word that a record is read into.
+/// `out` and `area` are lengths, and so is the word that a record or a block is put into.
 #[derive(Clone, Debug)]
 pub enum Call {
     Encode { m: usize, r: usize, message: Vec<u8>, out: usize },
@@ -17,6 +17,7 @@ pub enum Call {
     DecodeTable { file: Vec<u8>, number: usize, word: Vec<u8>, out: usize, area: usize },
     DecodeMade { count: usize, entry: Profile, number: usize, word: Vec<u8>, out: usize, area: usize },
     Record { file: Vec<u8>, rest: Vec<u8>, word: usize },
+    LoadBlock { profile: usize, state: u32, wrong: usize, word: usize },
 }
 
 /// Answer, output and area after a call; a buffer is missing if something was written around it.
@@ -57,6 +58,7 @@ impl Call {
             Call::Decode { word, .. } | Call::DecodeProfile { word, .. } | Call::Gap { word, .. } => word,
             Call::DecodeTable { word, .. } | Call::DecodeMade { word, .. } => word,
             Call::Record { rest, .. } => rest,
+            Call::LoadBlock { .. } => &[],
         }
     }
 
@@ -76,7 +78,7 @@ impl Call {
             Call::Decode { out, area, .. } | Call::DecodeProfile { out, area, .. } => (*out, *area),
             Call::Gap { area, .. } => (0, *area),
             Call::DecodeTable { out, area, .. } | Call::DecodeMade { out, area, .. } => (*out, *area),
-            Call::Record { word, .. } => (*word, 0),
+            Call::Record { word, .. } | Call::LoadBlock { word, .. } => (*word, 0),
         }
     }
 
@@ -107,24 +109,25 @@ impl Call {
             Call::Decode { m, r, rounds, leaves, .. } => decoder.decode(*m, *r, *rounds, *leaves, input, out, area),
             Call::DecodeProfile { profile, .. } => decoder.decode_profile(*profile, input, out, area),
             Call::Gap { m, .. } => decoder.gap(*m, input, area),
-            _ => self.made_under_table(decoder.beyond().expect("a decoder with tables"), input, file, out, area),
+            _ => self.made_beyond(decoder.beyond().expect("a decoder with these calls"), input, file, out, area),
         }
     }
 
-    fn made_under_table(
+    fn made_beyond(
         &self,
-        tables: &mut dyn Beyond,
+        beyond: &mut dyn Beyond,
         input: &[u8],
         file: &[u8],
         out: &mut [u8],
         area: &mut [i32],
     ) -> Answer {
         match self {
-            Call::DecodeTable { number, .. } => tables.decode_table(file, *number, input, out, area),
+            Call::DecodeTable { number, .. } => beyond.decode_table(file, *number, input, out, area),
             Call::DecodeMade { count, entry, number, .. } => {
-                tables.decode_made(*count, *entry, *number, input, out, area)
+                beyond.decode_made(*count, *entry, *number, input, out, area)
             }
-            _ => tables.record(file, input, out),
+            Call::LoadBlock { profile, state, wrong, .. } => beyond.load_block(*profile, *state, *wrong, out),
+            _ => beyond.record(file, input, out),
         }
     }
 }
@@ -151,6 +154,9 @@ impl fmt::Display for Call {
                 write!(f, "decode_made count {count} of {entry:?} number {number}")?
             }
             Call::Record { file, .. } => write!(f, "record {file:02x?}")?,
+            Call::LoadBlock { profile, state, wrong, .. } => {
+                write!(f, "load_block of profile {profile} from {state}, {wrong} wrong")?
+            }
         }
         let (out, area) = self.lengths();
         let input = self.input();

@@ -19,6 +19,14 @@ impl fmt::Display for Disagreement {
 /// One more than the greatest number of an answer.
 pub const REFUSALS: usize = 29;
 
+/// Whether the answers met are just these.
+pub fn met_just(what: &str, met: &[u64; REFUSALS], due: &[usize]) -> Result<(), Disagreement> {
+    match (0..REFUSALS).find(|number| (met[*number] > 0) != due.contains(number)) {
+        None => Ok(()),
+        Some(number) => Err(Disagreement(format!("answer {number} of {what}: {} times", met[number]))),
+    }
+}
+
 /// A decoder beside the right second decoder.
 pub struct Comparison<'a> {
     pub candidate: &'a mut dyn Decoder,

@@ -1,4 +1,4 @@
-//! The calls that every decoder under comparison offers, and those under tables, which some do.
+//! The calls that every decoder under comparison offers, and those beyond decoding, which some do.
 
 use second::profiles::Profile;
 
@@ -49,7 +49,7 @@ pub trait Decoder {
     }
 }
 
-/// Document 02, requests 4 and 11.
+/// Document 02, requests 4, 9 and 11.
 pub trait Beyond {
     fn decode_table(&mut self, file: &[u8], number: usize, word: &[u8], out: &mut [u8], area: &mut [i32]) -> Answer;
 
@@ -69,4 +69,7 @@ pub trait Beyond {
 
     /// Runs a script of operations on tallies; the number of operations made.
     fn tallies(&mut self, script: &[u8], answers: &mut [u8], tally: &mut [u32]) -> u64;
+
+    /// Draws one block of a load: 1 in the rounds where it was left short, the state after in the leaf count.
+    fn load_block(&mut self, profile: usize, state: u32, wrong: usize, word: &mut [u8]) -> Answer;
 }

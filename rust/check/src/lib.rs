@@ -11,6 +11,7 @@ pub mod decoders;
 pub mod gaps;
 pub mod guarantee;
 mod lent;
+pub mod loads;
 pub mod plan;
 pub mod random;
 mod small;

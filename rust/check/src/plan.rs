@@ -1,7 +1,7 @@
 //! What the comparison goes through.
 
 use crate::compare::{Comparison, Disagreement};
-use crate::{alike, bad_calls, blocks, code_calls, gaps, guarantee, small, tables, tallies, values};
+use crate::{alike, bad_calls, blocks, code_calls, gaps, guarantee, loads, small, tables, tallies, values};
 
 /// Few calls that still show every fault.
 pub fn directed(c: &mut Comparison) -> Result<(), Disagreement> {
@@ -32,7 +32,8 @@ fn directed_beyond(c: &mut Comparison) -> Result<(), Disagreement> {
     tables::records(c, 98, 2)?;
     tallies::full(c)?;
     tallies::short(c, 96, 40)?;
-    tallies::long(c, 97, 400, 18)
+    tallies::long(c, 97, 400, 18)?;
+    loads::all(c, 30)
 }
 
 /// What a layer goes through that has the calls by profile alone, and encodes and reads messages.
@@ -67,7 +68,8 @@ pub const WHOLE: &[Part] = &[
 ];
 
 /// The parts for the calls beyond decoding.
-pub const BEYOND: &[Part] = &[("tables of the customer's own", every_table), ("tallies", every_script)];
+pub const BEYOND: &[Part] =
+    &[("tables of the customer's own", every_table), ("tallies", every_script), ("loads", every_load)];
 
 fn every_small_word(c: &mut Comparison) -> Result<(), Disagreement> {
     (1..=3).try_for_each(|m| small::every_word(c, m))?;
@@ -185,4 +187,8 @@ fn every_script(c: &mut Comparison) -> Result<(), Disagreement> {
     tallies::lengths(c)?;
     tallies::short(c, 2_000, 2_000)?;
     [2, 12, 14, 18, 40].into_iter().try_for_each(|others| tallies::long(c, 2_100 + others as u64, 40_000, others))
+}
+
+fn every_load(c: &mut Comparison) -> Result<(), Disagreement> {
+    loads::all(c, 4_000)
 }

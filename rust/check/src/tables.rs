@@ -3,7 +3,7 @@
 use crate::alike;
 use crate::blocks::{codeword, noisy};
 use crate::call::{Call, Effects};
-use crate::compare::{Comparison, Disagreement, REFUSALS};
+use crate::compare::{met_just, Comparison, Disagreement, REFUSALS};
 use crate::random::Random;
 use second::profiles::{self, Profile};
 
@@ -46,14 +46,6 @@ fn at_the_limits(p: Profile) -> Vec<Profile> {
     let leaves = [0, 1, 2, 255, 256, 65_536, 999_999, 1_000_000, 1_000_001, 1 << 24, 1 << 31, (1 << 32) - 1];
     all.extend(leaves.map(|leaves| Profile { leaves, ..p }));
     all
-}
-
-/// Whether the answers met are just these.
-fn met_just(what: &str, met: &[u64; REFUSALS], due: &[usize]) -> Result<(), Disagreement> {
-    match (0..REFUSALS).find(|number| (met[*number] > 0) != due.contains(number)) {
-        None => Ok(()),
-        Some(number) => Err(Disagreement(format!("answer {number} of {what}: {} times", met[number]))),
-    }
 }
 
 /// The calls of one kind, and the answers that they met.

@@ -89,6 +89,18 @@ noticed! {
     seven_byte_names: SevenByteNames,
     returning_drops: ReturningDrops,
     unknown_name_clears: UnknownNameClears,
+    shifts_uncut: ShiftsUncut,
+    other_shift: OtherShift,
+    lowest_bit_of_state: LowestBitOfState,
+    repeated_place_mended: RepeatedPlaceMended,
+    one_draw_fewer: OneDrawFewer,
+    message_among_the_steps: MessageAmongTheSteps,
+    whole_at_the_end_is_short: WholeAtTheEndIsShort,
+    all_places_refused: AllPlacesRefused,
+    twenty_two_before_21: TwentyTwoBefore21,
+    length_before_22: LengthBefore22,
+    refused_call_steps: RefusedCallSteps,
+    refused_block_written: RefusedBlockWritten,
 }
 
 /// This one renumbers cosets in projection and vote alike, which no answer shows; the tests of `second` see it.

@@ -1,4 +1,4 @@
-//! The listing programs run as a person would run them: bytes to standard input, text from standard output.
+//! The programs run as a person would run them: bytes to standard input, bytes or text from standard output.
 
 use check::blocks::{codeword, noisy};
 use check::random::Random;
@@ -12,15 +12,26 @@ use std::thread;
 
 pub const HEADER: [u8; 5] = [b'W', b'M', b'R', 0, 1];
 
-/// Where `rt ci` and `rt check NAME` put the reader's program.
-pub fn program(reader: Reader) -> PathBuf {
-    let name = match reader {
-        Reader::Billing => "meter_list",
-        Reader::Crew => "crew_list",
-    };
+/// Where `rt ci` and `rt check NAME` put a program.
+fn built(name: &str) -> PathBuf {
     let path = PathBuf::from(env!("CARGO_MANIFEST_DIR")).join("../../target/bin").join(name);
     assert!(path.exists(), "{} is missing: run `rt check {name}`", path.display());
     path
+}
+
+/// The reader's program.
+pub fn program(reader: Reader) -> PathBuf {
+    built(match reader {
+        Reader::Billing => "meter_list",
+        Reader::Crew => "crew_list",
+    })
+}
+
+/// The capture that the load's program writes, which reads no input.
+pub fn written_load() -> Vec<u8> {
+    let ran = Command::new(built("write_load")).stdin(Stdio::null()).output().expect("the program runs");
+    assert!(ran.status.success() && ran.stderr.is_empty());
+    ran.stdout
 }
 
 /// What the program prints for a capture that reaches it in pieces of so many bytes.

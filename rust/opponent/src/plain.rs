@@ -4,6 +4,7 @@ mod codes;
 mod cosets;
 mod gap;
 mod leaf;
+mod load;
 mod reading;
 
 use crate::call::{check_decoding, differing, Answer};
@@ -11,6 +12,7 @@ use crate::profiles::profile;
 use codes::bad_byte;
 pub use codes::{encode, is_codeword, read_message};
 pub use gap::gap;
+pub use load::load_block;
 use reading::Reader;
 pub use reading::Workspace;
 

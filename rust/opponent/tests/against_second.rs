@@ -2,7 +2,7 @@
 
 use opponent::{plain, Answer, Workspace};
 use second::message_bits;
-use second::{code, Fault, Second};
+use second::{code, load, profiles, Fault, Second};
 
 struct Random(u64);
 
@@ -102,4 +102,25 @@ fn codes() {
 #[test]
 fn plain_codes() {
     codes_of(plain::encode, plain::read_message, plain::is_codeword);
+}
+
+/// Blocks of loads, each from the state after the one before, and the refusals.
+#[test]
+fn loads() {
+    for profile in 0..6 {
+        let n = 1usize << profiles::profile(profile).map_or(5, |p| p.m);
+        for (wrong, room) in [(0, n), (3, n), (n / 2, n), (n, n), (n + 1, n), (usize::MAX, n), (3, n - 1), (3, n + 1)] {
+            for start in [0, 1, u32::MAX] {
+                let mut state = start;
+                for _ in 0..50 {
+                    let (mut word, mut right_word) = (vec![7; room], vec![7; room]);
+                    let found = plain::load_block(profile, state, wrong, &mut word);
+                    let right = load::block(profile, state, wrong, &mut right_word, Fault::None);
+                    assert_eq!((found.refusal, found.short, found.state), (right.refusal, right.short, right.state));
+                    assert_eq!(word, right_word, "{profile} {state} {wrong}");
+                    state = right.state;
+                }
+            }
+        }
+    }
 }

@@ -7,6 +7,7 @@ use crate::checks::{
 use crate::code;
 use crate::gap;
 use crate::leaves::{AboveLimit, Leaves};
+use crate::load::{self, Drawn};
 use crate::profiles::{self, Profile};
 use crate::reading::{Failure, Lists, Reader};
 use crate::steps;
@@ -79,6 +80,11 @@ impl Second {
     /// Runs a script of operations on tallies.
     pub fn tallies(&self, script: &[u8], answers: &mut [u8], tally: &mut [u32]) -> u64 {
         tallies::run(script, answers, tally, self.fault)
+    }
+
+    /// Draws one block of a load.
+    pub fn load_block(&self, profile: usize, state: u32, wrong: usize, word: &mut [u8]) -> Drawn {
+        load::block(profile, state, wrong, word, self.fault)
     }
 
     #[allow(clippy::too_many_arguments)]

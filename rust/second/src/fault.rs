@@ -119,6 +119,30 @@ pub enum Fault {
     ReturningDrops,
     /// Returning to an unknown name clears the tally.
     UnknownNameClears,
+    /// A step of a load is kept to 32 bits only at its end.
+    ShiftsUncut,
+    /// A step of a load shifts right by 7.
+    OtherShift,
+    /// A message bit of a load is the state's lowest.
+    LowestBitOfState,
+    /// A wrong place that is drawn again is right again.
+    RepeatedPlaceMended,
+    /// At most n - 1 steps are made for places.
+    OneDrawFewer,
+    /// The message's steps are among the n for places.
+    MessageAmongTheSteps,
+    /// A block whose last wrong place is drawn at step n is called short.
+    WholeAtTheEndIsShort,
+    /// n wrong places are refused 22.
+    AllPlacesRefused,
+    /// 22 is tested before 21.
+    TwentyTwoBefore21,
+    /// 6 is tested before 22.
+    LengthBefore22,
+    /// A refused call for a block makes a step.
+    RefusedCallSteps,
+    /// A refused call for a block clears its buffer.
+    RefusedBlockWritten,
 }
 
 impl Fault {
@@ -182,6 +206,18 @@ impl Fault {
         Fault::SevenByteNames,
         Fault::ReturningDrops,
         Fault::UnknownNameClears,
+        Fault::ShiftsUncut,
+        Fault::OtherShift,
+        Fault::LowestBitOfState,
+        Fault::RepeatedPlaceMended,
+        Fault::OneDrawFewer,
+        Fault::MessageAmongTheSteps,
+        Fault::WholeAtTheEndIsShort,
+        Fault::AllPlacesRefused,
+        Fault::TwentyTwoBefore21,
+        Fault::LengthBefore22,
+        Fault::RefusedCallSteps,
+        Fault::RefusedBlockWritten,
     ];
 
     /// Whether the fault is one of the codeword test's steps.

@@ -1,6 +1,6 @@
-//! A second encoder, message reader, codeword test, decoder, gap, load of table files, capture reader and named tallies, written from the
-//! papers alone and for plainness, not speed: everything is found by search and by trying all codewords. The codeword test stands twice, by the
-//! coefficients and by the steps of document 02.
+//! A second encoder, message reader, codeword test, decoder, gap, load of table files, capture reader, named tallies and generator of loads,
+//! written from the papers alone and for plainness, not speed: everything is found by search and by trying all codewords. The codeword test
+//! stands twice, by the coefficients and by the steps of document 02.
 //! It can be made wrong in named ways (`Fault`), to show that a comparison with it notices them.
 
 mod answer;
@@ -11,6 +11,7 @@ pub mod direction;
 mod fault;
 pub mod gap;
 mod leaves;
+pub mod load;
 pub mod profiles;
 mod reading;
 pub mod steps;

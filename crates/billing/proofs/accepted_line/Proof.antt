@@ -4,7 +4,7 @@ use Prim.Native.Nat.{_≤_}
 use mathlib.Core.Path.{_∙_}
 use lib.ListN.{length}
 use Rattle.words.specs.Parts.{front-length}
-use Rattle.billing.specs.MessageLines.{dimension-most, dimension-size}
+use Rattle.code.specs.Dimension.{dimension-most, dimension-size}
 use borrow.Author.Needs.{needs}
 use Rattle.billing.proofs.accepted_line.Statement.{statement}
 use Rattle.billing.proofs.accepted_line.Tie as tie

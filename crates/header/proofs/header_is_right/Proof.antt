@@ -41,59 +41,59 @@ returns c = simp (lt-ltb _ _ (c .if1 .taken))
 shared-slice-read-if2 : tie.Need-shared-slice-read-if2
 shared-slice-read-if2 c = search needs
 
-element-copy-out-if2 : tie.Need-element-copy-out-if2
-element-copy-out-if2 c = search needs
+array-read-if2 : tie.Need-array-read-if2
+array-read-if2 c = search needs
 
 returns-2 : tie.Need-returns-2
-returns-2 c = wrong0 (c .before .before .before .before .before .args .capture .now) (c .before .before .before .before .if1 .left) (c .if2 .taken)
+returns-2 c = wrong0 (c .before .before .before .args .capture .now) (c .before .before .if1 .left) (c .if2 .taken)
 
 shared-slice-read-if3 : tie.Need-shared-slice-read-if3
 shared-slice-read-if3 c = search needs
 
-element-copy-out-if3 : tie.Need-element-copy-out-if3
-element-copy-out-if3 c = search needs
+array-read-if3 : tie.Need-array-read-if3
+array-read-if3 c = search needs
 
 returns-3 : tie.Need-returns-3
 returns-3 c =
-    let b = c .before .before .before in
-    let a = b .before .before .before .before in
+    let b = c .before .before in
+    let a = b .before .before in
     wrong1 (a .before .args .capture .now) (a .if1 .left) (b .if2 .left) (c .if3 .taken)
 
 shared-slice-read-if4 : tie.Need-shared-slice-read-if4
 shared-slice-read-if4 c = search needs
 
-element-copy-out-if4 : tie.Need-element-copy-out-if4
-element-copy-out-if4 c = search needs
+array-read-if4 : tie.Need-array-read-if4
+array-read-if4 c = search needs
 
 returns-4 : tie.Need-returns-4
 returns-4 c =
-    let a = c .before .before .before in
-    let b = a .before .before .before in
-    let s = b .before .before .before .before in
-    wrong2 (s .before .args .capture .now) (s .if1 .left) (b .if2 .left) (a .if3 .left) (c .if4 .taken)
+    let d = c .before .before in
+    let b = d .before .before in
+    let a = b .before .before in
+    wrong2 (a .before .args .capture .now) (a .if1 .left) (b .if2 .left) (d .if3 .left) (c .if4 .taken)
 
 shared-slice-read-if5 : tie.Need-shared-slice-read-if5
 shared-slice-read-if5 c = search needs
 
 returns-5 : tie.Need-returns-5
 returns-5 c =
-    let z = c .before .before in
-    let a = z .before .before .before in
-    let b = a .before .before .before in
-    let s = b .before .before .before .before in
-    wrong3 (s .before .args .capture .now) (s .if1 .left) (b .if2 .left) (a .if3 .left) (z .if4 .left) (c .if5 .taken)
+    let e = c .before .before in
+    let d = e .before .before in
+    let b = d .before .before in
+    let a = b .before .before in
+    wrong3 (a .before .args .capture .now) (a .if1 .left) (b .if2 .left) (d .if3 .left) (e .if4 .left) (c .if5 .taken)
 
 shared-slice-read-result : tie.Need-shared-slice-read-result
 shared-slice-read-result c = search needs
 
 returns-6 : tie.Need-returns-6
 returns-6 c =
-    let y = c .before in
-    let z = y .before .before in
-    let a = z .before .before .before in
-    let b = a .before .before .before in
-    let s = b .before .before .before .before in
-    last (s .before .args .capture .now) (s .if1 .left) (b .if2 .left) (a .if3 .left) (z .if4 .left) (y .if5 .left)
+    let f = c .before in
+    let e = f .before .before in
+    let d = e .before .before in
+    let b = d .before .before in
+    let a = b .before .before in
+    last (a .before .args .capture .now) (a .if1 .left) (b .if2 .left) (d .if3 .left) (e .if4 .left) (f .if5 .left)
 
 pub header-is-right-spec : {M : Type 1} → statement M
 header-is-right-spec =
@@ -101,13 +101,13 @@ header-is-right-spec =
     (tie.spec
     returns
     shared-slice-read-if2
-    element-copy-out-if2
+    array-read-if2
     returns-2
     shared-slice-read-if3
-    element-copy-out-if3
+    array-read-if3
     returns-3
     shared-slice-read-if4
-    element-copy-out-if4
+    array-read-if4
     returns-4
     shared-slice-read-if5
     returns-5

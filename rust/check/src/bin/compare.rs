@@ -71,12 +71,12 @@ fn by_threads(name: &str) -> Result<Met, Disagreement> {
     })
 }
 
-/// Whether the plan meets this answer, which 16, 19 and 20 are beyond decoding: those of tables and records. 15 is the listing's, and what a
-/// script of tallies answers is not counted here.
+/// Whether the plan meets this answer, which 16, 19 to 22 are beyond decoding: those of tables, records and loads. 15 is the listing's, and what
+/// a script of tallies answers is not counted here.
 fn due(number: usize, beyond: bool) -> bool {
     match number {
         0..=14 => true,
-        16 | 19 | 20 => beyond,
+        16 | 19..=22 => beyond,
         _ => false,
     }
 }

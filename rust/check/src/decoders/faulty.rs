@@ -89,4 +89,9 @@ impl Beyond for Faulty {
     fn tallies(&mut self, script: &[u8], answers: &mut [u8], tally: &mut [u32]) -> u64 {
         self.0.tallies(script, answers, tally)
     }
+
+    fn load_block(&mut self, profile: usize, state: u32, wrong: usize, word: &mut [u8]) -> Answer {
+        let drawn = self.0.load_block(profile, state, wrong, word);
+        Answer::numbers(drawn.refusal as u64, drawn.short as u64, drawn.state as u64)
+    }
 }

@@ -77,4 +77,11 @@ impl Beyond for Library {
     fn tallies(&mut self, script: &[u8], answers: &mut [u8], tally: &mut [u32]) -> u64 {
         calls::tallies(script, answers, tally)
     }
+
+    fn load_block(&mut self, profile: usize, state: u32, wrong: usize, word: &mut [u8]) -> Answer {
+        let drawn = calls::load_block(profile, state, wrong, word);
+        // bits that must be 0 would show as places mended
+        let numbers = Answer::numbers(drawn.refusal as u64, drawn.short as u64, drawn.state as u64);
+        Answer { mended: drawn.unused as u64, ..numbers }
+    }
 }
