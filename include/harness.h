@@ -18,6 +18,7 @@
  *   rm_decode_table      n, word      n        8 n or more   n of the table's entry
  *   rm_decode_made       n, word      n        8 n or more   n of the table's entry
  *   rm_record            any          n                      n of the record's profile
+ *   rm_decode_array      n, array     n        8 x the longer of row and column, or more; n = 2^(row_m + column_m), exponents 1 to 6
  *   rm_load_block                     n                      n of the profile
  *
  *   profile     0     1     2     3     4
@@ -26,7 +27,7 @@
  *   k           6    22    29    37    93
  *   8 n       256   512  1024  2048  2048
  *
- * The area may hold anything before a call. It is as it was after refusals 1 to 8, 14, 19 and 20, and all zero after every other answer.
+ * The area may hold anything before a call. It is as it was after refusals 1 to 8, 14, 19, 20 and 27, and all zero after every other answer.
  *
  * A table file is the letters WMT, the bytes 0 and 1, a count of 1 to 32, and for each entry m (3 to 10), r (0 to m), rounds (1 to 16) in one
  * byte each and the leaf limit (1 to 1,000,000) in four, senior byte first; nothing after the last. Entries are numbered from 0.
@@ -41,10 +42,12 @@
 extern "C" {
 #endif
 
-/* The lengths that are enough for every m. */
+/* The lengths that are enough for every m, and for every array. */
 enum rm_most {
     RM_MOST_PLACES = 1024,
-    RM_MOST_AREA = 8192
+    RM_MOST_AREA = 8192,
+    RM_MOST_ARRAY_PLACES = 4096,
+    RM_MOST_ARRAY_AREA = 512
 };
 
 /* Refusals by number, in the order of checking, except that 12 comes before 9, 10 and 11. */
@@ -78,7 +81,10 @@ enum rm_refusals {
     RM_WRONG_PLACES = 22,   /* more wrong places asked than n */
     /* in rm_tallies alone */
     RM_UNKNOWN_NAME = 25,   /* no tally has that name, when returning or dropping */
-    RM_NAMES_FULL = 26      /* sixteen other names are held, when saving */
+    RM_NAMES_FULL = 26,     /* sixteen other names are held, when saving */
+    /* in rm_decode_array alone */
+    RM_ARRAY_EXPONENT = 27, /* an exponent above 6, tested after 1 */
+    RM_NOT_ARRAY = 28       /* some row or column is no codeword at the end */
 };
 
 /* An answer has five numbers, lowest first: refusal or 0 in 8 bits, rounds in 8, leaf count in 24, mended places in 12, place in 12. */
@@ -165,6 +171,23 @@ static inline unsigned rm_left_short(uint64_t answer) {
 /* Of rm_load_block: the state after. */
 static inline uint32_t rm_load_state(uint64_t answer) {
     return (uint32_t)(answer >> 32);
+}
+
+/* A block in rows and columns, its places row after row: each of the 2^column_m rows a codeword of the row code, each of the 2^row_m columns
+ * of the column code. All rows are decoded, refused ones left as received, then all columns in the same manner, each reading under these
+ * limits; accepted where every row and column is then a codeword. Checked are 1, 27 and 2 of the row code, then of the column code, then 3 to
+ * 8. Its answer has other numbers, below: no rounds and no mended places. */
+uint64_t rm_decode_array(size_t row_m, size_t row_r, size_t column_m, size_t column_r, size_t rounds, size_t leaves,
+                         const uint8_t *word, size_t word_len, uint8_t *out, size_t out_len, int32_t *area, size_t area_len);
+
+/* Of rm_decode_array, beside rm_refusal: the sum of the leaf counts of all readings, those refused too; 0 with 1 to 8 and 27. */
+static inline uint64_t rm_array_leaves(uint64_t answer) {
+    return answer >> 8 & (((uint64_t)1 << 40) - 1);
+}
+
+/* Of rm_decode_array: with 8 the lowest place of the array that holds a byte above 1, else 0. */
+static inline unsigned rm_array_place(uint64_t answer) {
+    return (unsigned)(answer >> 48);
 }
 
 /* Runs a script of operations on a tally of answers by number, 32 counts, with no name held at the start, and leaves the counts after it. An

@@ -1,5 +1,5 @@
-/* Document 01's meter bench values, some gaps, a table, a script of tallies and blocks of a load, called from C: ends with 0 only where every one
- * of them holds.
+/* Document 01's meter bench values, some gaps, a table, a script of tallies, blocks of a load and some arrays, called from C: ends with 0 only
+ * where every one of them holds.
  * It is C++ as well.
  *
  *   rt staticlib harness && cc -Iinclude samples/bench_values.c target/staticlib/libharness.a -o target/bench_values && target/bench_values
@@ -209,6 +209,36 @@ static void load(void) {
     expect(rm_refusal(answer) == RM_OUTPUT_LENGTH && rm_load_state(answer) == 9 && output_is(NULL, 64), "a load", "6");
 }
 
+/* An array is a text row after row; a decoded one too where it is accepted, else none. */
+static void array_is(const char *name, size_t row_m, size_t row_r, size_t column_m, size_t column_r, size_t leaves, const char *block,
+                     unsigned refusal, uint64_t counted, const char *decoded) {
+    uint8_t word[RM_MOST_PLACES];
+    size_t n = bits(block, word);
+    uint64_t answer;
+    filled();
+    answer = rm_decode_array(row_m, row_r, column_m, column_r, 4, leaves, word, n, out, n, area, RM_MOST_ARRAY_AREA);
+    expect(rm_refusal(answer) == refusal, name, "the refusal");
+    expect(rm_array_leaves(answer) == counted, name, "the leaf sum");
+    expect(rm_array_place(answer) == 0, name, "the place");
+    expect(output_is(decoded, n), name, "the output");
+    expect(area_is(refusal == RM_ARRAY_EXPONENT ? 5 : 0, RM_MOST_ARRAY_AREA), name, "the area");
+}
+
+/* Document 02, request 12. */
+static void arrays(void) {
+    uint8_t bad[8] = {0, 1, 0, 0, 1, 2, 0, 255};
+    uint64_t answer;
+    array_is("a wrong place mended by its row", 2, 0, 1, 1, LEAVES, "00011111", 0, 4, "00001111");
+    array_is("a tie in a row and in its column", 2, 1, 1, 0, LEAVES, "10000000", RM_NOT_ARRAY, 2, NULL);
+    array_is("a tie in a row, mended by its columns", 1, 0, 2, 0, LEAVES, "01000000", 0, 0, "00000000");
+    array_is("rows before columns", 2, 0, 2, 0, LEAVES, "0001100110000000", 0, 0, "0000000000000000");
+    array_is("rows refused 12", 2, 2, 1, 1, 2, "10110100", 0, 8, "10110100");
+    array_is("a row exponent of 7", 7, 0, 0, 0, LEAVES, "0000", RM_ARRAY_EXPONENT, 0, NULL);
+    answer = rm_decode_array(2, 0, 1, 0, 1, 1, bad, 8, out, 8, area, 32);
+    expect(rm_refusal(answer) == RM_BAD_BYTE && rm_array_place(answer) == 5, "an array with bytes above 1", "the place");
+    expect(rm_decode_array(1, 0, 2, 0, 1, 1, bad, 8, out, 8, area, 31) == RM_AREA_LENGTH, "an area of a row", "the refusal");
+}
+
 /* Each number of an answer by itself, and the place of a bad byte. */
 static void numbers(void) {
     uint64_t answer = (uint64_t)12 | (uint64_t)5 << 8 | (uint64_t)1000000 << 16 | (uint64_t)1024 << 40 | (uint64_t)1023 << 52;
@@ -229,6 +259,7 @@ int main(void) {
     tables();
     tallies();
     load();
+    arrays();
     numbers();
     if (failures == 0) puts("the bench values hold");
     return failures != 0;

@@ -2,18 +2,17 @@
 use Prim.Native.Nat.{ℕ, _+_, _*_, _^_, _≤_, _<_}
 use native.Mathlib.Omega.{arith}
 use mathlib.Core.Path.{_≡_, refl, sym, ap, subst, _∙_}
-use mathlib.Core.Bool.{Bool, true, false, _&&_}
-use mathlib.Core.List.{List, [], _∷_, _++_}
+use mathlib.Core.Bool.{Bool, true}
+use mathlib.Core.List.{List, _++_}
 use lib.ListN.{length}
 use lib.IntN.{ℤ, pos}
-use borrow.Author.Tests.{eqb-true, leb-true, ne-eqb, le-leb, lt-leb}
-use Rattle.words.specs.SumLaws.{both-true}
+use borrow.Author.Tests.{eqb-true, leb-true, le-leb}
 use Rattle.words.specs.Word.{bit}
 use Rattle.words.specs.Written.{Written}
 use Rattle.area.specs.Area.{at, Front, wordOf}
 use Rattle.area.specs.AreaLaws.{front-bits, front-word, wordOf-same}
-use Rattle.refusals.specs.CheckLaws.{code-passed, next, number-pos, other-place, passed, rest-passes}
-use Rattle.refusals.specs.Refusals.{Check, check, Checked, answerNumber, answerPlace, areaKept, codeChecks, firstRefusal, numberOf}
+use Rattle.refusals.specs.CheckLaws.{allKept, code-passed, first-kept, next, number-pos, other-place, passed, rest-passes}
+use Rattle.refusals.specs.Refusals.{Check, check, Checked, answerNumber, answerPlace, codeChecks, firstRefusal, numberOf}
 use Rattle.refusals.specs.declared.Refusal.{Refusal}
 use Rattle.refusals.specs.declared.Answer.{Answer}
 use Rattle.refusals.specs.declared.Answer.the-variants.{Done, Refused as Refuses}
@@ -30,7 +29,7 @@ use Rattle.rule.specs.Calls.{Decodes, decodedPlace, valuesOf}
 use Rattle.rule.specs.Covariance.{reading-in}
 use Rattle.rule.specs.Outcomes.{CodewordIn}
 use Rattle.rule.specs.Counts.{leaf-most, reading-leaf}
-use Rattle.told.specs.Told.{noiseNumber, numbersOf, numbersIn, Holds, Kept, Read}
+use Rattle.told.specs.Told.{numbersOf, numbersIn, Holds, Kept, Read}
 use Rattle.told.specs.declared.Told.{Told}
 use Rattle.told.specs.ToldLaws.{noise-clears, noise-number}
 use Rattle.told.specs.declared.Verdict.{Verdict}
@@ -197,17 +196,6 @@ module _ {m r rounds leaves : ℕ} {word out : List ℕ} {xs : List ℤ} (runs :
     }
 
 -- ---- the checks
-
--- every refusal of the checks leaves the area as it is
-abbrev pub allKept : List Check → Bool
-allKept [] = true
-allKept (check n ok ∷ cs) = areaKept n && allKept cs
-
-first-kept : (cs : List Check) → allKept cs ≡ true → 0 < firstRefusal cs → areaKept (firstRefusal cs) ≡ true
-unfolding firstRefusal
-first-kept [] h l = absurd (omega arith)
-first-kept (check n true ∷ cs) h l = first-kept cs (both-true (areaKept n) (allKept cs) h .1) l
-first-kept (check n false ∷ cs) h l = both-true (areaKept n) (allKept cs) h .0
 
 module _ {cs : List Check} {word : List ℕ} {a : Answer} (checked : Checked cs word a) where
   pub checks-passed : a ≡ Done → firstRefusal cs ≡ 0

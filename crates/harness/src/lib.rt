@@ -7,6 +7,7 @@ ghost use Rattle.profiles.specs.Profiles.{profileOf};
 ghost use Rattle.rule.specs.Decoding.{decodeCall, decodeProfileCall};
 ghost use Rattle.packing.specs.Packing.{Returns, ReturnsDecoded, ReturnsGap, packTest};
 
+mod array_calls;
 mod by_table;
 mod load_calls;
 mod tally_calls;

@@ -11,6 +11,7 @@ use gap::Measured;
 use refusals::Answer;
 use refusals::Decoded;
 
+pub mod arrays;
 pub mod by_table;
 pub mod loads;
 

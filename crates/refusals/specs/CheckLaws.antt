@@ -11,7 +11,7 @@ use borrow.Author.Tests.{not-true, le-leb, lt-leb, leb-true, eq-eqb, ne-eqb, ltb
 use Rattle.words.specs.SumLaws.{all-true, true-all, some-false, both-true}
 use Rattle.words.specs.Word.{bit, lowestBad}
 use Rattle.words.specs.Search.{lowest-above, lowest-before}
-use Rattle.refusals.specs.Refusals.{Checked, numberOf, placeOf, answerNumber, answerPlace, placeNamed, Check, check, firstRefusal, codeChecks, allBits, byteChecks}
+use Rattle.refusals.specs.Refusals.{Checked, numberOf, placeOf, answerNumber, answerPlace, placeNamed, Check, check, firstRefusal, areaKept, codeChecks, allBits, byteChecks}
 use Rattle.refusals.specs.declared.Refusal.{Refusal}
 use Rattle.refusals.specs.declared.Refusal.the-variants.{Exponent, Order, RoundLimit, LeafLimit, InputLength, OutputLength, AreaLength, BadByte, Tie, Flipping, Unsettled, TooManyLeaves, NotCodeword, Profile, Header, Truncated, Erased, OutOfRange, TableFile, TableEntry, LoadStart, WrongPlaces, Meters, Retries, UnknownName, NamesFull, ArrayExponent, NotArray}
 use Rattle.refusals.specs.declared.Answer.{Answer}
@@ -73,6 +73,19 @@ unfolding firstRefusal
 rest-passes [] ds e = sym e
 rest-passes (check n true ∷ cs) ds e = rest-passes cs ds e
 rest-passes (check n false ∷ cs) ds e = refl
+
+-- ---- the area
+
+-- every refusal of the checks leaves the area as it is
+abbrev pub allKept : List Check → Bool
+allKept [] = true
+allKept (check n ok ∷ cs) = areaKept n && allKept cs
+
+pub first-kept : (cs : List Check) → allKept cs ≡ true → 0 < firstRefusal cs → areaKept (firstRefusal cs) ≡ true
+unfolding firstRefusal
+first-kept [] h l = absurd (omega arith)
+first-kept (check n true ∷ cs) h l = first-kept cs (both-true (areaKept n) (allKept cs) h .1) l
+first-kept (check n false ∷ cs) h l = both-true (areaKept n) (allKept cs) h .0
 
 -- ---- the code
 

@@ -43,7 +43,7 @@ agree m r w c (refused n k l) y hw hc h e = record { answer = ap (answerOf m (ad
 abbrev answered : List Check → ℕ → ℕ → ℕ → ℕ → List ℕ → Outcome
 answered cs m r rounds leaves w = after cs (limited leaves (reading r m rounds w))
 
-sound : (m r : ℕ) (o : Outcome) → CodewordIn m r o → Noise o → Sound m r o
+pub sound : (m r : ℕ) (o : Outcome) → CodewordIn m r o → Noise o → Sound m r o
 sound m r (accepted d k l) h n = h
 sound m r (refused e k l) h n = omega arith
 

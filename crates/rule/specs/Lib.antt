@@ -12,6 +12,7 @@ pub mod Counts
 pub mod DecodingLaws
 pub mod ProfileLaws
 pub mod Demand3
+pub mod Clean
 pub mod MendedLeast
 pub mod WorkedRounds
 pub mod WorkedVotes

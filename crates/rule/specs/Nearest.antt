@@ -178,7 +178,7 @@ module _ {m r : ℕ} {w : List ℕ} where
 
 -- ---- a codeword is its own nearest
 
-itself : {m r : ℕ} {w : List ℕ} → r ≤ m → IsCodeword m r w → Nearest m r w w
+pub itself : {m r : ℕ} {w : List ℕ} → r ≤ m → IsCodeword m r w → Nearest m r w w
 itself {m} {r} {w} h c = record {
   codeword = c;
   nearer = λ d hd ne. omega (arith, distance-self m w, code-distance h c hd (λ e. ne (sym e)), pow-pos (m - r));

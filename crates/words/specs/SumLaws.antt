@@ -75,8 +75,13 @@ unfolding total
 sum-most zero b f h = omega arith
 sum-most (suc n) b f h = omega (arith, sum-most n b f (λ i l. h i (omega arith)), h n (omega arith))
 
+pub sum-same : (n b : ℕ) (f : ℕ → ℕ) → ((i : ℕ) → i < n → f i ≡ b) → sumBelow n f ≡ n * b
+unfolding total
+sum-same zero b f h = omega arith
+sum-same (suc n) b f h = omega (arith, sum-same n b f (λ i l. h i (omega arith)), h n (omega arith))
+
 pub sum-zero : (n : ℕ) (f : ℕ → ℕ) → ((p : ℕ) → p < n → f p ≡ 0) → sumBelow n f ≡ 0
-sum-zero n f h = omega (arith, sum-most n 0 f (λ i l. omega (arith, h i l)), mul-zero n)
+sum-zero n f h = sum-same n 0 f h ∙ mul-zero n
 
 -- a shorter sum is not greater
 pub sum-prefix : (n i : ℕ) (f : ℕ → ℕ) → i ≤ n → sumBelow i f ≤ sumBelow n f

@@ -9,8 +9,8 @@ use native.Mathlib.Omega.{arith}
 use lib.ListN.{length, List·getD-eq-default}
 use lib.Seq.{ext-getD}
 use Rattle.words.specs.Sum.{tabulate}
-use Rattle.words.specs.SumLaws.{length-tabulate, bit-tabulate, sum-ext}
-use Rattle.words.specs.Word.{bit, indicator, IsWord, addWords, distance}
+use Rattle.words.specs.SumLaws.{length-tabulate, bit-tabulate, sum-ext, sum-more, sum-prefix}
+use Rattle.words.specs.Word.{bit, indicator, IsWord, addWords, differs, distance}
 
 -- omega gives up on nested remainders: strip them first, then sort the sum
 pub ruleset unmod = (mod-add-mod, add-mod-mod)
@@ -79,3 +79,9 @@ unfolding distance
 distance-add {m} {w} {v} {c} hw hv hc =
     sum-ext (2 ^ m) (λ p. (bit (addWords w c) p + bit (addWords v c) p) % 2) (λ p. (bit w p + bit v p) % 2)
     (λ p l. rw (word-bit hw hc p, word-bit hv hc p) (simp unmod (omega arith)))
+
+-- words that differ at no place are one
+pub distance-none : {m : ℕ} {w v : List ℕ} → IsWord m w → IsWord m v → distance m w v ≡ 0 → w ≡ v
+unfolding distance
+distance-none {m} {w} {v} hw hv e =
+    word-ext hw hv (λ p l. omega (arith, hw .bits p, hv .bits p, sum-more p (differs w v), sum-prefix (2 ^ m) (p + 1) (differs w v) (omega arith)))

@@ -1,6 +1,7 @@
 //! Races of the library against the decoders written for speed, all in one run. The first argument says which:
-//! decode, codes, gap, load, gateway, listing or all; or instructions, which counts them and takes no time.
+//! decode, codes, gap, arrays, load, gateway, listing or all; or instructions, which counts them and takes no time.
 
+mod arrays;
 mod codes;
 mod decoding;
 mod gaps;
@@ -17,20 +18,22 @@ fn main() -> ExitCode {
         "decode" => decoding::races(),
         "codes" => codes::races(),
         "gap" => gaps::races(),
+        "arrays" => arrays::races(),
         "load" => loads::races(),
         "gateway" => decoding::gateway_races(),
         "listing" => listings::races(),
         "all" => decoding::races()
             .and_then(|()| codes::races())
             .and_then(|()| gaps::races())
+            .and_then(|()| arrays::races())
             .and_then(|()| loads::races())
             .and_then(|()| decoding::gateway_races())
             .and_then(|()| listings::races()),
         "instructions" => instructions::counts(),
         instructions::PASSES => instructions::passes(std::env::args().skip(2)),
-        _ => {
-            Err(format!("no races are named {which}: decode, codes, gap, load, gateway, listing, all or instructions"))
-        }
+        _ => Err(format!(
+            "no races are named {which}: decode, codes, gap, arrays, load, gateway, listing, all or instructions"
+        )),
     };
     match raced {
         Ok(()) => ExitCode::SUCCESS,

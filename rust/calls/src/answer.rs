@@ -58,9 +58,24 @@ impl Drawn {
     }
 }
 
+/// What a call on an array answers. Lowest first: refusal or 0 in 8 bits, leaf sum in 40, the place of 8 in 16.
+#[derive(Clone, Copy, PartialEq, Eq, Debug, Default)]
+pub struct ArrayAnswer {
+    pub refusal: u8,
+    pub leaves: u64,
+    pub place: u16,
+}
+
+impl ArrayAnswer {
+    #[inline]
+    pub fn unpacked(bits: u64) -> ArrayAnswer {
+        ArrayAnswer { refusal: bits as u8, leaves: bits >> 8 & ((1 << 40) - 1), place: (bits >> 48) as u16 }
+    }
+}
+
 #[cfg(test)]
 mod tests {
-    use super::{Answer, Drawn, Found};
+    use super::{Answer, ArrayAnswer, Drawn, Found};
 
     #[test]
     fn each_field_by_itself() {
@@ -80,5 +95,11 @@ mod tests {
         let drawn = Drawn { refusal: 22, short: 1, unused: 0, state: 4_000_000_017 };
         assert_eq!(Drawn::unpacked(22 | 1 << 8 | 4_000_000_017 << 32), drawn);
         assert_eq!(Drawn::unpacked(1 << 31).unused, 1 << 15);
+    }
+
+    #[test]
+    fn each_field_of_an_array() {
+        let answer = ArrayAnswer { refusal: 28, leaves: 128_000_000, place: 4_095 };
+        assert_eq!(ArrayAnswer::unpacked(28 | 128_000_000 << 8 | 4_095 << 48), answer);
     }
 }

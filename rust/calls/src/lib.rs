@@ -3,7 +3,7 @@
 
 mod answer;
 
-pub use answer::{Answer, Drawn, Found};
+pub use answer::{Answer, ArrayAnswer, Drawn, Found};
 
 extern "C" {
     fn rm_encode(m: usize, r: usize, message: *const u8, message_len: usize, out: *mut u8, out_len: usize) -> u64;
@@ -63,6 +63,20 @@ extern "C" {
         rest_len: usize,
         word: *mut u8,
         word_len: usize,
+    ) -> u64;
+    fn rm_decode_array(
+        row_m: usize,
+        row_r: usize,
+        column_m: usize,
+        column_r: usize,
+        rounds: usize,
+        leaves: usize,
+        word: *const u8,
+        word_len: usize,
+        out: *mut u8,
+        out_len: usize,
+        area: *mut i32,
+        area_len: usize,
     ) -> u64;
     fn rm_tallies(
         script: *const u8,
@@ -181,4 +195,22 @@ pub fn tallies(script: &[u8], answers: &mut [u8], tally: &mut [u32]) -> u64 {
 pub fn load_block(profile: usize, state: u32, wrong: usize, word: &mut [u8]) -> Drawn {
     // SAFETY: as for `encode`.
     Drawn::unpacked(unsafe { rm_load_block(profile, state, wrong, word.as_mut_ptr(), word.len()) })
+}
+
+/// A block in rows and columns: exponent and order of the row code, then of the column code; round limit and leaf limit.
+#[inline]
+pub fn decode_array(
+    [row_m, row_r, column_m, column_r]: [usize; 4],
+    [rounds, leaves]: [usize; 2],
+    word: &[u8],
+    out: &mut [u8],
+    area: &mut [i32],
+) -> ArrayAnswer {
+    let (word, word_len) = (word.as_ptr(), word.len());
+    let (out, out_len) = (out.as_mut_ptr(), out.len());
+    let (area, area_len) = (area.as_mut_ptr(), area.len());
+    // SAFETY: as for `encode`.
+    ArrayAnswer::unpacked(unsafe {
+        rm_decode_array(row_m, row_r, column_m, column_r, rounds, leaves, word, word_len, out, out_len, area, area_len)
+    })
 }

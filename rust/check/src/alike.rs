@@ -12,7 +12,8 @@ fn with_word(call: &Call, other: Vec<u8>) -> Call {
     match &mut call {
         Call::Decode { word, area, .. }
         | Call::DecodeProfile { word, area, .. }
-        | Call::DecodeTable { word, area, .. } => {
+        | Call::DecodeTable { word, area, .. }
+        | Call::DecodeArray { word, area, .. } => {
             *word = other;
             *area += 3;
         }

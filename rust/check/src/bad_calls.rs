@@ -3,6 +3,7 @@
 use crate::call::Call;
 use crate::compare::{Comparison, Disagreement};
 use crate::random::Random;
+use second::array::{Side, Sides};
 use second::message_bits;
 use second::profiles;
 
@@ -93,6 +94,21 @@ impl Chooser {
         let m = self.exponent();
         let n = 1 << m.clamp(1, 5);
         Call::Gap { m, word: self.bytes_of(n), area: self.area(n) }
+    }
+
+    /// Exponent and order of one side of an array.
+    fn side(&mut self) -> Side {
+        let good = 1 + self.random.below(3);
+        let m = self.number(good, &[0, 7, 8, 10, 11, 12, 64, (1 << 32) + 2, usize::MAX]);
+        Side { m, r: self.order(m) }
+    }
+
+    pub fn array_call(&mut self) -> Call {
+        let (row, column, rounds, leaves) = (self.side(), self.side(), self.rounds(), self.leaves());
+        let (a, b) = (row.m.clamp(1, 3), column.m.clamp(1, 3));
+        let n = 1 << (a + b);
+        let (word, out, area) = (self.bytes_of(n), self.length(n), self.area(1 << a.max(b)));
+        Call::DecodeArray { sides: Sides { row, column, rounds, leaves }, word, out, area }
     }
 
     fn profile_call(&mut self) -> Call {

@@ -2,6 +2,7 @@
 
 use crate::decoder::{Answer, Beyond, Decoder};
 use crate::lent;
+use second::array::Sides;
 use second::profiles::Profile;
 use std::fmt;
 
@@ -18,6 +19,7 @@ pub enum Call {
     DecodeMade { count: usize, entry: Profile, number: usize, word: Vec<u8>, out: usize, area: usize },
     Record { file: Vec<u8>, rest: Vec<u8>, word: usize },
     LoadBlock { profile: usize, state: u32, wrong: usize, word: usize },
+    DecodeArray { sides: Sides, word: Vec<u8>, out: usize, area: usize },
 }
 
 /// Answer, output and area after a call; a buffer is missing if something was written around it.
@@ -51,12 +53,18 @@ impl Call {
         Call::DecodeMade { count, entry, number, word: word.to_vec(), out: word.len(), area: 8 * word.len() }
     }
 
+    /// On an array, with buffers of the right sizes.
+    pub fn decode_array(sides: Sides, word: &[u8]) -> Call {
+        let longer = sides.row.m.max(sides.column.m);
+        Call::DecodeArray { sides, word: word.to_vec(), out: word.len(), area: 8 << longer }
+    }
+
     pub fn input(&self) -> &[u8] {
         match self {
             Call::Encode { message, .. } => message,
             Call::ReadMessage { word, .. } | Call::IsCodeword { word, .. } => word,
             Call::Decode { word, .. } | Call::DecodeProfile { word, .. } | Call::Gap { word, .. } => word,
-            Call::DecodeTable { word, .. } | Call::DecodeMade { word, .. } => word,
+            Call::DecodeTable { word, .. } | Call::DecodeMade { word, .. } | Call::DecodeArray { word, .. } => word,
             Call::Record { rest, .. } => rest,
             Call::LoadBlock { .. } => &[],
         }
@@ -78,6 +86,7 @@ impl Call {
             Call::Decode { out, area, .. } | Call::DecodeProfile { out, area, .. } => (*out, *area),
             Call::Gap { area, .. } => (0, *area),
             Call::DecodeTable { out, area, .. } | Call::DecodeMade { out, area, .. } => (*out, *area),
+            Call::DecodeArray { out, area, .. } => (*out, *area),
             Call::Record { word, .. } | Call::LoadBlock { word, .. } => (*word, 0),
         }
     }
@@ -85,7 +94,9 @@ impl Call {
     pub fn with_area(mut self, length: usize) -> Call {
         match &mut self {
             Call::Decode { area, .. } | Call::DecodeProfile { area, .. } | Call::Gap { area, .. } => *area = length,
-            Call::DecodeTable { area, .. } | Call::DecodeMade { area, .. } => *area = length,
+            Call::DecodeTable { area, .. } | Call::DecodeMade { area, .. } | Call::DecodeArray { area, .. } => {
+                *area = length
+            }
             _ => {}
         }
         self
@@ -127,6 +138,7 @@ impl Call {
                 beyond.decode_made(*count, *entry, *number, input, out, area)
             }
             Call::LoadBlock { profile, state, wrong, .. } => beyond.load_block(*profile, *state, *wrong, out),
+            Call::DecodeArray { sides, .. } => beyond.decode_array(*sides, input, out, area),
             _ => beyond.record(file, input, out),
         }
     }
@@ -157,6 +169,7 @@ impl fmt::Display for Call {
             Call::LoadBlock { profile, state, wrong, .. } => {
                 write!(f, "load_block of profile {profile} from {state}, {wrong} wrong")?
             }
+            Call::DecodeArray { sides, .. } => write!(f, "decode_array {sides:?}")?,
         }
         let (out, area) = self.lengths();
         let input = self.input();

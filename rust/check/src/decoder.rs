@@ -1,5 +1,6 @@
 //! The calls that every decoder under comparison offers, and those beyond decoding, which some do.
 
+use second::array::Sides;
 use second::profiles::Profile;
 
 /// Refusal or 0, rounds, leaf count, mended places, and the place that 8 names, or the entry that 20 does.
@@ -49,7 +50,7 @@ pub trait Decoder {
     }
 }
 
-/// Document 02, requests 4, 9 and 11.
+/// Document 02, requests 4, 9, 11 and 12.
 pub trait Beyond {
     fn decode_table(&mut self, file: &[u8], number: usize, word: &[u8], out: &mut [u8], area: &mut [i32]) -> Answer;
 
@@ -72,4 +73,7 @@ pub trait Beyond {
 
     /// Draws one block of a load: 1 in the rounds where it was left short, the state after in the leaf count.
     fn load_block(&mut self, profile: usize, state: u32, wrong: usize, word: &mut [u8]) -> Answer;
+
+    /// A block in rows and columns; the leaf sum in the leaf count.
+    fn decode_array(&mut self, sides: Sides, word: &[u8], out: &mut [u8], area: &mut [i32]) -> Answer;
 }

@@ -1,6 +1,7 @@
 //! The comparison of a decoder with the second decoder, call by call: answer, output and area.
 
 pub mod alike;
+pub mod arrays;
 mod bad_calls;
 pub mod blocks;
 pub mod call;

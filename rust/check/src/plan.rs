@@ -1,7 +1,7 @@
 //! What the comparison goes through.
 
 use crate::compare::{Comparison, Disagreement};
-use crate::{alike, bad_calls, blocks, code_calls, gaps, guarantee, loads, small, tables, tallies, values};
+use crate::{alike, arrays, bad_calls, blocks, code_calls, gaps, guarantee, loads, small, tables, tallies, values};
 
 /// Few calls that still show every fault.
 pub fn directed(c: &mut Comparison) -> Result<(), Disagreement> {
@@ -33,7 +33,8 @@ fn directed_beyond(c: &mut Comparison) -> Result<(), Disagreement> {
     tallies::full(c)?;
     tallies::short(c, 96, 40)?;
     tallies::long(c, 97, 400, 18)?;
-    loads::all(c, 30)
+    loads::all(c, 30)?;
+    arrays::directed(c, 99)
 }
 
 /// What a layer goes through that has the calls by profile alone, and encodes and reads messages.
@@ -68,8 +69,13 @@ pub const WHOLE: &[Part] = &[
 ];
 
 /// The parts for the calls beyond decoding.
-pub const BEYOND: &[Part] =
-    &[("tables of the customer's own", every_table), ("tallies", every_script), ("loads", every_load)];
+pub const BEYOND: &[Part] = &[
+    ("tables of the customer's own", every_table),
+    ("tallies", every_script),
+    ("loads", every_load),
+    ("arrays", every_array),
+    ("arrays that differ by an array of codewords", |c| arrays::pairs(c, 2_602)),
+];
 
 fn every_small_word(c: &mut Comparison) -> Result<(), Disagreement> {
     (1..=3).try_for_each(|m| small::every_word(c, m))?;
@@ -191,4 +197,10 @@ fn every_script(c: &mut Comparison) -> Result<(), Disagreement> {
 
 fn every_load(c: &mut Comparison) -> Result<(), Disagreement> {
     loads::all(c, 4_000)
+}
+
+fn every_array(c: &mut Comparison) -> Result<(), Disagreement> {
+    arrays::small(c)?;
+    arrays::large(c, 2_600)?;
+    arrays::bad(c, 2_601, 6_000)
 }

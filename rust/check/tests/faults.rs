@@ -101,6 +101,18 @@ noticed! {
     length_before_22: LengthBefore22,
     refused_call_steps: RefusedCallSteps,
     refused_block_written: RefusedBlockWritten,
+    columns_first: ColumnsFirst,
+    refused_as_zeros: RefusedAsZeros,
+    refused_uncounted: RefusedUncounted,
+    limit_of_the_array: LimitOfTheArray,
+    twenty_seven_first: TwentySevenFirst,
+    row_order_late: RowOrderLate,
+    area_of_the_row: AreaOfTheRow,
+    place_in_the_row: PlaceInTheRow,
+    output_on_28: OutputOn28,
+    rows_untested: RowsUntested,
+    array_area_not_cleared: ArrayAreaNotCleared,
+    area_cleared_after_27: AreaClearedAfter27,
 }
 
 /// This one renumbers cosets in projection and vote alike, which no answer shows; the tests of `second` see it.

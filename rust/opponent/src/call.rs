@@ -56,17 +56,27 @@ pub fn check_lengths(input: usize, right_input: usize, out: usize, right_out: us
     }
 }
 
+/// 3 and 4, or 0.
+#[inline(always)]
+pub fn check_limits(rounds: usize, leaves: usize) -> u8 {
+    if !(1..=16).contains(&rounds) {
+        3
+    } else if !(1..=1_000_000).contains(&leaves) {
+        4
+    } else {
+        0
+    }
+}
+
 /// 1 to 6, or 0.
 pub fn check_decoding(m: usize, r: usize, rounds: usize, leaves: usize, word: &[u8], out: &[u8]) -> u8 {
     match check_code(m, r) {
         0 => {}
         refusal => return refusal,
     }
-    if !(1..=16).contains(&rounds) {
-        return 3;
-    }
-    if !(1..=1_000_000).contains(&leaves) {
-        return 4;
+    match check_limits(rounds, leaves) {
+        0 => {}
+        refusal => return refusal,
     }
     check_lengths(word.len(), 1 << m, out.len(), 1 << m)
 }

@@ -1,5 +1,6 @@
 //! The same codes and the same decoder with one number for each place and loops that follow the rule step by step.
 
+mod arrays;
 mod codes;
 mod cosets;
 mod gap;
@@ -9,6 +10,7 @@ mod reading;
 
 use crate::call::{check_decoding, differing, Answer};
 use crate::profiles::profile;
+pub use arrays::decode_array;
 use codes::bad_byte;
 pub use codes::{encode, is_codeword, read_message};
 pub use gap::gap;

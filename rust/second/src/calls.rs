@@ -17,7 +17,7 @@ use crate::Fault;
 
 /// The second encoder and decoder, right or made wrong.
 pub struct Second {
-    fault: Fault,
+    pub(crate) fault: Fault,
     /// The codeword test goes by the steps, not by the coefficients.
     by_steps: bool,
     lists: Lists,
@@ -181,7 +181,7 @@ impl Second {
     }
 
     /// The answer of the reading asked for, and the decoded word where it is accepted.
-    fn read(&mut self, m: usize, r: usize, limits: Limits, word: &[u8]) -> (Answer, Option<Vec<u8>>) {
+    pub(crate) fn read(&mut self, m: usize, r: usize, limits: Limits, word: &[u8]) -> (Answer, Option<Vec<u8>>) {
         let leaves = Leaves::new(limits.leaves, self.fault);
         let mut reader = Reader { lists: &mut self.lists, round_limit: limits.rounds, leaves, fault: self.fault };
         let reading = match reader.reading(m, r, word, 0) {

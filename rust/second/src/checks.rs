@@ -1,6 +1,7 @@
 //! The checks of a call's arguments, each with its refusal.
 
 use crate::answer::{Answer, Limits};
+use crate::array::Side;
 use crate::{code, Fault};
 
 /// The number of message bits: the sum of the binomials of m over 0 to r.
@@ -22,6 +23,26 @@ pub fn check_exponent(m: usize) -> Result<(), Answer> {
 pub fn check_code(m: usize, r: usize) -> Result<(), Answer> {
     check_exponent(m)?;
     check(r > m, 2)
+}
+
+/// 1, then 27.
+fn check_side_exponent(side: Side, fault: Fault) -> Result<(), Answer> {
+    let long = check(side.m > 6, 27);
+    if fault == Fault::TwentySevenFirst {
+        return long.and_then(|()| check_exponent(side.m));
+    }
+    check_exponent(side.m).and(long)
+}
+
+/// 1, 27 and 2 of the row code of an array, then of the column code.
+pub fn check_sides(row: Side, column: Side, fault: Fault) -> Result<(), Answer> {
+    check_side_exponent(row, fault)?;
+    if fault == Fault::RowOrderLate {
+        check_side_exponent(column, fault)?;
+    }
+    check(row.r > row.m, 2)?;
+    check_side_exponent(column, fault)?;
+    check(column.r > column.m, 2)
 }
 
 pub fn check_limits(limits: Limits) -> Result<(), Answer> {

@@ -143,6 +143,30 @@ pub enum Fault {
     RefusedCallSteps,
     /// A refused call for a block clears its buffer.
     RefusedBlockWritten,
+    /// The columns of an array are decoded before its rows.
+    ColumnsFirst,
+    /// A refused row or column of an array is replaced by zeros.
+    RefusedAsZeros,
+    /// The leaf counts of an array's refused readings are left out.
+    RefusedUncounted,
+    /// An array's leaf limit is one for all readings.
+    LimitOfTheArray,
+    /// 27 is tested before 1.
+    TwentySevenFirst,
+    /// 2 of the row code is tested after 1 and 27 of the column code.
+    RowOrderLate,
+    /// The area that an array asks is that of a row.
+    AreaOfTheRow,
+    /// 8 names the place in its row.
+    PlaceInTheRow,
+    /// The output is written on 28.
+    OutputOn28,
+    /// An array is accepted without the last test of its rows.
+    RowsUntested,
+    /// The area keeps what was in it after an array.
+    ArrayAreaNotCleared,
+    /// The area is cleared after 27.
+    AreaClearedAfter27,
 }
 
 impl Fault {
@@ -218,6 +242,18 @@ impl Fault {
         Fault::LengthBefore22,
         Fault::RefusedCallSteps,
         Fault::RefusedBlockWritten,
+        Fault::ColumnsFirst,
+        Fault::RefusedAsZeros,
+        Fault::RefusedUncounted,
+        Fault::LimitOfTheArray,
+        Fault::TwentySevenFirst,
+        Fault::RowOrderLate,
+        Fault::AreaOfTheRow,
+        Fault::PlaceInTheRow,
+        Fault::OutputOn28,
+        Fault::RowsUntested,
+        Fault::ArrayAreaNotCleared,
+        Fault::AreaClearedAfter27,
     ];
 
     /// Whether the fault is one of the codeword test's steps.

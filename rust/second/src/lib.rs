@@ -1,9 +1,10 @@
-//! A second encoder, message reader, codeword test, decoder, gap, load of table files, capture reader, named tallies and generator of loads,
-//! written from the papers alone and for plainness, not speed: everything is found by search and by trying all codewords. The codeword test
-//! stands twice, by the coefficients and by the steps of document 02.
+//! A second encoder, message reader, codeword test, decoder, gap, load of table files, capture reader, named tallies, generator of loads and
+//! decoder of arrays, written from the papers alone and for plainness, not speed: everything is found by search and by trying all codewords. The
+//! codeword test stands twice, by the coefficients and by the steps of document 02.
 //! It can be made wrong in named ways (`Fault`), to show that a comparison with it notices them.
 
 mod answer;
+pub mod array;
 mod calls;
 mod checks;
 pub mod code;

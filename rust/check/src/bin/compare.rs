@@ -71,12 +71,12 @@ fn by_threads(name: &str) -> Result<Met, Disagreement> {
     })
 }
 
-/// Whether the plan meets this answer, which 16, 19 to 22 are beyond decoding: those of tables, records and loads. 15 is the listing's, and what
-/// a script of tallies answers is not counted here.
+/// Whether the plan meets this answer, which 16, 19 to 22, 27 and 28 are beyond decoding: those of tables, records, loads and arrays. 15 is the
+/// listing's, and what a script of tallies answers is not counted here.
 fn due(number: usize, beyond: bool) -> bool {
     match number {
         0..=14 => true,
-        16 | 19..=22 => beyond,
+        16 | 19..=22 | 27 | 28 => beyond,
         _ => false,
     }
 }

@@ -1,6 +1,7 @@
 //! The second decoder, right or with a fault.
 
 use crate::decoder::{Answer, Beyond, Decoder};
+use second::array::Sides;
 use second::profiles::Profile;
 use second::table::Table;
 use second::{Fault, Second};
@@ -93,5 +94,9 @@ impl Beyond for Faulty {
     fn load_block(&mut self, profile: usize, state: u32, wrong: usize, word: &mut [u8]) -> Answer {
         let drawn = self.0.load_block(profile, state, wrong, word);
         Answer::numbers(drawn.refusal as u64, drawn.short as u64, drawn.state as u64)
+    }
+
+    fn decode_array(&mut self, sides: Sides, word: &[u8], out: &mut [u8], area: &mut [i32]) -> Answer {
+        answer(self.0.decode_array(sides, word, out, area))
     }
 }

@@ -1,6 +1,7 @@
 //! The proved library, through its C exports.
 
 use crate::decoder::{Answer, Beyond, Decoder};
+use second::array::Sides;
 use second::profiles::Profile;
 
 pub struct Library;
@@ -83,5 +84,11 @@ impl Beyond for Library {
         // bits that must be 0 would show as places mended
         let numbers = Answer::numbers(drawn.refusal as u64, drawn.short as u64, drawn.state as u64);
         Answer { mended: drawn.unused as u64, ..numbers }
+    }
+
+    fn decode_array(&mut self, sides: Sides, word: &[u8], out: &mut [u8], area: &mut [i32]) -> Answer {
+        let Sides { row, column, rounds, leaves } = sides;
+        let answer = calls::decode_array([row.m, row.r, column.m, column.r], [rounds, leaves], word, out, area);
+        Answer { place: answer.place as u64, ..Answer::numbers(answer.refusal as u64, 0, answer.leaves) }
     }
 }

@@ -1,8 +1,8 @@
--- `decoder::run` meets its contract: a block of order 1 goes from bytes to bytes, any other through the area. Assumes nothing.
+-- `decoder::runs::run` meets its contract: a block of order 1 goes from bytes to bytes, any other through the area. Assumes nothing.
 use borrow.Author.Needs.{needs}
 use Rattle.decoder.proofs.Whole.{runs-readable, direct-gives, gives-mendable, gives-decodes}
-use Rattle.decoder.proofs.run.Statement.{statement}
-use Rattle.decoder.proofs.run.Tie as tie
+use Rattle.decoder.proofs.runs.run.Statement.{statement}
+use Rattle.decoder.proofs.runs.run.Tie as tie
 
 read-block-requires : tie.Need-read-block-requires
 read-block-requires c κs =

@@ -1,12 +1,12 @@
--- `decoder::run_in_area` meets its contract. Assumes nothing.
+-- `decoder::runs::run_in_area` meets its contract. Assumes nothing.
 use Prim.Native.Nat.{ℕ}
 use mathlib.Core.Path.{ap, _∙_}
 use lib.IntN.{pos}
 use lib.ListN.{replicate}
 use borrow.Author.Needs.{needs}
 use Rattle.decoder.proofs.Whole.{loaded-ready, read-delivers, read-gives}
-use Rattle.decoder.proofs.run_in_area.Statement.{statement}
-use Rattle.decoder.proofs.run_in_area.Tie as tie
+use Rattle.decoder.proofs.runs.run_in_area.Statement.{statement}
+use Rattle.decoder.proofs.runs.run_in_area.Tie as tie
 
 load-requires : tie.Need-load-requires
 load-requires c κs = search needs

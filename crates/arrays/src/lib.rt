@@ -1,0 +1,1 @@
+// Blocks in rows and columns, as definitions and theorems: specs/.
