@@ -20,6 +20,7 @@
  *   rm_record            any          n                      n of the record's profile
  *   rm_decode_array      n, array     n        8 x the longer of row and column, or more; n = 2^(row_m + column_m), exponents 1 to 6
  *   rm_load_block                     n                      n of the profile
+ *   rm_street                         n        8 n or more   n of the profile; any log
  *
  *   profile     0     1     2     3     4
  *   m, r      5,1   6,2   7,2   8,2   8,3
@@ -27,7 +28,8 @@
  *   k           6    22    29    37    93
  *   8 n       256   512  1024  2048  2048
  *
- * The area may hold anything before a call. It is as it was after refusals 1 to 8, 14, 19, 20 and 27, and all zero after every other answer.
+ * The area may hold anything before a call. It is as it was after refusals 1 to 8, 14, 19 to 24 and 27, and where a street
+ * sent no block, and all zero after every other answer.
  *
  * A table file is the letters WMT, the bytes 0 and 1, a count of 1 to 32, and for each entry m (3 to 10), r (0 to m), rounds (1 to 16) in one
  * byte each and the leaf limit (1 to 1,000,000) in four, senior byte first; nothing after the last. Entries are numbered from 0.
@@ -76,9 +78,12 @@ enum rm_refusals {
     /* of whoever wrote the table file */
     RM_TABLE_FILE = 19,     /* mark, version, count or length wrong */
     RM_TABLE_ENTRY = 20,    /* an entry outside the limits; the answer names the first */
-    /* in rm_load_block alone */
+    /* in rm_load_block and rm_street */
     RM_LOAD_START = 21,     /* a state of 0 */
     RM_WRONG_PLACES = 22,   /* more wrong places asked than n */
+    /* in rm_street alone */
+    RM_METERS = 23,         /* outside 1 to 256 */
+    RM_RETRIES = 24,        /* above 15 */
     /* in rm_tallies alone */
     RM_UNKNOWN_NAME = 25,   /* no tally has that name, when returning or dropping */
     RM_NAMES_FULL = 26,     /* sixteen other names are held, when saving */
@@ -171,6 +176,30 @@ static inline unsigned rm_left_short(uint64_t answer) {
 /* Of rm_load_block: the state after. */
 static inline uint32_t rm_load_state(uint64_t answer) {
     return (uint32_t)(answer >> 32);
+}
+
+/* Tries a street of meters: they send in turn, by number from 0, each block the next of one load from `start`; in later turns, at most `retries`,
+ * only those refused in the turn before. Steps are made until `steps` of them have sent a block, or one answers that none is left. The step
+ * that sends block i, from 0, writes three numbers of the log, where there is room for all three: at 3 i the meter, then its try, 0 in the
+ * first turn, then its answer, RM_RIGHT, RM_OTHER or a refusal's number. The word is left with the last block sent, as it was sent. Its answer
+ * has other numbers, below. Refused, before any step, 23, 24, 14, 21, 22, 6 or 7: log, word and area are as they were. */
+uint64_t rm_street(size_t meters, size_t retries, size_t profile, uint32_t start, size_t wrong, size_t steps,
+                   uint32_t *log, size_t log_len, uint8_t *word, size_t word_len, int32_t *area, size_t area_len);
+
+/* The answers in a street's log that are no refusals. */
+enum rm_fates {
+    RM_RIGHT = 0,  /* accepted as the codeword sent */
+    RM_OTHER = 100 /* accepted as another one */
+};
+
+/* Of rm_street, beside rm_refusal: the number of blocks sent. */
+static inline uint32_t rm_street_sent(uint64_t answer) {
+    return (uint32_t)(answer >> 8);
+}
+
+/* Of rm_street: 1 where a step answered that none is left; where the last meter has sent at step `steps`, no further one was asked. */
+static inline unsigned rm_street_over(uint64_t answer) {
+    return (unsigned)(answer >> 40 & 255);
 }
 
 /* A block in rows and columns, its places row after row: each of the 2^column_m rows a codeword of the row code, each of the 2^row_m columns

@@ -209,6 +209,37 @@ static void load(void) {
     expect(rm_refusal(answer) == RM_OUTPUT_LENGTH && rm_load_state(answer) == 9 && output_is(NULL, 64), "a load", "6");
 }
 
+/* Document 02, request 10: a street of three meters in which all three answers are met, the same cut at its last step and with a log of no
+ * room for it, and the refusals in their order. */
+static void street(void) {
+    static const uint32_t right[14] = {0, 0, RM_RIGHT, 1, 0, RM_TIE, 2, 0, RM_OTHER, 1, 1, RM_RIGHT, 7, 7};
+    uint32_t log[14];
+    uint64_t answer;
+    size_t i;
+    filled();
+    for (i = 0; i < 14; i++) log[i] = 7;
+    answer = rm_street(3, 1, 0, 3, 10, 5, log, 14, out, 32, area, 256);
+    expect(rm_refusal(answer) == 0 && rm_street_sent(answer) == 4 && rm_street_over(answer) == 1, "a street", "the answer");
+    expect(memcmp(log, right, sizeof log) == 0, "a street", "the log");
+    expect(output_is("01111111110100010110110001101110", 32), "a street", "the last block");
+    expect(area_is(0, 256), "a street", "the area");
+    filled();
+    for (i = 0; i < 14; i++) log[i] = 7;
+    answer = rm_street(3, 1, 0, 3, 10, 4, log, 11, out, 32, area, 256);
+    expect(rm_refusal(answer) == 0 && rm_street_sent(answer) == 4 && rm_street_over(answer) == 0, "a street of four steps", "the answer");
+    expect(memcmp(log, right, 9 * sizeof log[0]) == 0 && log[9] == 7 && log[10] == 7, "a street of four steps", "the log");
+    filled();
+    expect(rm_street(0, 16, 5, 0, 65, 5, log, 0, out, 0, area, 0) == RM_METERS, "a street", "23");
+    expect(rm_street(257, 16, 5, 0, 65, 5, log, 0, out, 0, area, 0) == RM_METERS, "a street", "23 above 256");
+    expect(rm_street(1, 16, 5, 0, 65, 5, log, 0, out, 0, area, 0) == RM_RETRIES, "a street", "24");
+    expect(rm_street(1, 15, 5, 0, 65, 5, log, 0, out, 0, area, 0) == RM_PROFILE, "a street", "14");
+    expect(rm_street(1, 15, 1, 0, 65, 5, log, 0, out, 0, area, 0) == RM_LOAD_START, "a street", "21");
+    expect(rm_street(1, 15, 1, 9, 65, 5, log, 0, out, 0, area, 0) == RM_WRONG_PLACES, "a street", "22");
+    expect(rm_street(1, 15, 1, 9, 64, 5, log, 0, out, 63, area, 511) == RM_OUTPUT_LENGTH, "a street", "6");
+    expect(rm_street(1, 15, 1, 9, 64, 5, log, 0, out, 64, area, 511) == RM_AREA_LENGTH, "a street", "7");
+    expect(output_is(NULL, 64) && area_is(5, 511), "a street", "the word or the area after a refusal");
+}
+
 /* An array is a text row after row; a decoded one too where it is accepted, else none. */
 static void array_is(const char *name, size_t row_m, size_t row_r, size_t column_m, size_t column_r, size_t leaves, const char *block,
                      unsigned refusal, uint64_t counted, const char *decoded) {
@@ -259,6 +290,7 @@ int main(void) {
     tables();
     tallies();
     load();
+    street();
     arrays();
     numbers();
     if (failures == 0) puts("the bench values hold");

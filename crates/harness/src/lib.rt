@@ -10,6 +10,7 @@ ghost use Rattle.packing.specs.Packing.{Returns, ReturnsDecoded, ReturnsGap, pa
 mod array_calls;
 mod by_table;
 mod load_calls;
+mod street_calls;
 mod tally_calls;
 
 #[no_mangle]

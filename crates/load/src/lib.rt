@@ -4,17 +4,19 @@ ghost use Rattle.tables.specs.Slots.{Proper};
 ghost use Rattle.tables.specs.Tables.{ours, slotOf};
 ghost use Rattle.load.specs.Load.{Draws};
 ghost use Rattle.load.specs.Records.{Writes};
-ghost use Rattle.load.specs.Steps.{Started, refusing};
+ghost use Rattle.load.specs.Steps.{refusing};
 use blocks::draw_block;
 use captures::capture_in;
 use refusals::Answer;
 use refusals::Refusal;
+use starts::check_start;
 use tables::Slot;
 use tables::Table;
 
 pub mod blocks;
 mod captures;
 mod records;
+pub mod starts;
 
 // What a call for a block answers: the state after it, and whether the block was left short.
 pub struct Next {
@@ -28,24 +30,6 @@ pub struct Captured {
     pub answer: Answer,
     pub state: u32,
     pub short: usize,
-}
-
-// 14, 21 and 22.
-fn check_start(slot: Slot, state: u32, asked: usize) -> Answer
-    requires { ⌜ Proper slot ⌝ }
-    ensures { λ a. ⌜ Started slot state asked a ⌝ }
-{
-    if !slot.known {
-        return Answer::Refused(Refusal::Profile);
-    }
-    let n = words::size(slot.profile.m);
-    if state == 0 {
-        return Answer::Refused(Refusal::LoadStart);
-    }
-    if n < asked {
-        return Answer::Refused(Refusal::WrongPlaces);
-    }
-    Answer::Done
 }
 
 // A refused call makes no step.

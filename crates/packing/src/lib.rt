@@ -14,6 +14,7 @@ use refusals::Decoded;
 pub mod arrays;
 pub mod by_table;
 pub mod loads;
+pub mod runs;
 
 fn pack(number: u8, rounds: usize, leaves: usize, mended: usize, place: usize) -> u64
     ensures { λ x. ⌜ x ≡ Rattle.packing.specs.Packing.pack number rounds leaves mended place ⌝ }

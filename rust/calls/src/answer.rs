@@ -73,9 +73,30 @@ impl ArrayAnswer {
     }
 }
 
+/// Steps of a street. Lowest first: refusal or 0 in 8 bits, the blocks sent in 32, 1 where a step answered that none is left in 8, 0 in 16.
+#[derive(Clone, Copy, PartialEq, Eq, Debug, Default)]
+pub struct Walked {
+    pub refusal: u8,
+    pub sent: u32,
+    pub none_left: u8,
+    pub unused: u16,
+}
+
+impl Walked {
+    #[inline]
+    pub fn unpacked(bits: u64) -> Walked {
+        Walked {
+            refusal: bits as u8,
+            sent: (bits >> 8) as u32,
+            none_left: (bits >> 40) as u8,
+            unused: (bits >> 48) as u16,
+        }
+    }
+}
+
 #[cfg(test)]
 mod tests {
-    use super::{Answer, ArrayAnswer, Drawn, Found};
+    use super::{Answer, ArrayAnswer, Drawn, Found, Walked};
 
     #[test]
     fn each_field_by_itself() {
@@ -101,5 +122,12 @@ mod tests {
     fn each_field_of_an_array() {
         let answer = ArrayAnswer { refusal: 28, leaves: 128_000_000, place: 4_095 };
         assert_eq!(ArrayAnswer::unpacked(28 | 128_000_000 << 8 | 4_095 << 48), answer);
+    }
+
+    #[test]
+    fn each_field_of_a_street() {
+        let walked = Walked { refusal: 24, sent: 4_000_000_017, none_left: 1, unused: 0 };
+        assert_eq!(Walked::unpacked(24 | 4_000_000_017 << 8 | 1 << 40), walked);
+        assert_eq!(Walked::unpacked(1 << 63).unused, 1 << 15);
     }
 }

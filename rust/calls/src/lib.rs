@@ -3,7 +3,7 @@
 
 mod answer;
 
-pub use answer::{Answer, ArrayAnswer, Drawn, Found};
+pub use answer::{Answer, ArrayAnswer, Drawn, Found, Walked};
 
 extern "C" {
     fn rm_encode(m: usize, r: usize, message: *const u8, message_len: usize, out: *mut u8, out_len: usize) -> u64;
@@ -87,6 +87,20 @@ extern "C" {
         tally_len: usize,
     ) -> u64;
     fn rm_load_block(profile: usize, state: u32, wrong: usize, word: *mut u8, word_len: usize) -> u64;
+    fn rm_street(
+        meters: usize,
+        retries: usize,
+        profile: usize,
+        start: u32,
+        wrong: usize,
+        steps: usize,
+        log: *mut u32,
+        log_len: usize,
+        word: *mut u8,
+        word_len: usize,
+        area: *mut i32,
+        area_len: usize,
+    ) -> u64;
 }
 
 #[inline]
@@ -195,6 +209,26 @@ pub fn tallies(script: &[u8], answers: &mut [u8], tally: &mut [u32]) -> u64 {
 pub fn load_block(profile: usize, state: u32, wrong: usize, word: &mut [u8]) -> Drawn {
     // SAFETY: as for `encode`.
     Drawn::unpacked(unsafe { rm_load_block(profile, state, wrong, word.as_mut_ptr(), word.len()) })
+}
+
+/// Starts a street of so many meters under a retry limit and makes steps until so many have sent a block, or none is left.
+#[inline]
+pub fn street(
+    [meters, retries, profile]: [usize; 3],
+    start: u32,
+    wrong: usize,
+    steps: usize,
+    log: &mut [u32],
+    word: &mut [u8],
+    area: &mut [i32],
+) -> Walked {
+    let (log, log_len) = (log.as_mut_ptr(), log.len());
+    let (word, word_len) = (word.as_mut_ptr(), word.len());
+    let (area, area_len) = (area.as_mut_ptr(), area.len());
+    // SAFETY: as for `encode`.
+    Walked::unpacked(unsafe {
+        rm_street(meters, retries, profile, start, wrong, steps, log, log_len, word, word_len, area, area_len)
+    })
 }
 
 /// A block in rows and columns: exponent and order of the row code, then of the column code; round limit and leaf limit.

@@ -4,9 +4,10 @@ use crate::decoder::{Answer, Beyond, Decoder};
 use crate::lent;
 use second::array::Sides;
 use second::profiles::Profile;
+use second::street::Plan;
 use std::fmt;
 
-/// `out` and `area` are lengths, and so is the word that a record or a block is put into.
+/// `out` and `area` are lengths, and so are a street's log and the word that a record or a block is put into.
 #[derive(Clone, Debug)]
 pub enum Call {
     Encode { m: usize, r: usize, message: Vec<u8>, out: usize },
@@ -20,14 +21,16 @@ pub enum Call {
     Record { file: Vec<u8>, rest: Vec<u8>, word: usize },
     LoadBlock { profile: usize, state: u32, wrong: usize, word: usize },
     DecodeArray { sides: Sides, word: Vec<u8>, out: usize, area: usize },
+    Street { plan: Plan, steps: usize, log: usize, word: usize, area: usize },
 }
 
-/// Answer, output and area after a call; a buffer is missing if something was written around it.
+/// Answer, output, area and log after a call; a buffer is missing if something was written around it.
 #[derive(Clone, PartialEq, Eq, Debug)]
 pub struct Effects {
     pub answer: Answer,
     pub out: Option<Vec<u8>>,
     pub area: Option<Vec<i32>>,
+    pub log: Option<Vec<u32>>,
     pub input_kept: bool,
 }
 
@@ -66,7 +69,7 @@ impl Call {
             Call::Decode { word, .. } | Call::DecodeProfile { word, .. } | Call::Gap { word, .. } => word,
             Call::DecodeTable { word, .. } | Call::DecodeMade { word, .. } | Call::DecodeArray { word, .. } => word,
             Call::Record { rest, .. } => rest,
-            Call::LoadBlock { .. } => &[],
+            Call::LoadBlock { .. } | Call::Street { .. } => &[],
         }
     }
 
@@ -88,6 +91,15 @@ impl Call {
             Call::DecodeTable { out, area, .. } | Call::DecodeMade { out, area, .. } => (*out, *area),
             Call::DecodeArray { out, area, .. } => (*out, *area),
             Call::Record { word, .. } | Call::LoadBlock { word, .. } => (*word, 0),
+            Call::Street { word, area, .. } => (*word, *area),
+        }
+    }
+
+    /// The length of a street's log.
+    fn log(&self) -> usize {
+        match self {
+            Call::Street { log, .. } => *log,
+            _ => 0,
         }
     }
 
@@ -107,9 +119,16 @@ impl Call {
         let (out_length, area_length) = self.lengths();
         let (mut out, mut area) = (lent::bytes(out_length), lent::numbers(area_length));
         let (input, file) = (self.input().to_vec(), self.file().to_vec());
-        let answer = self.made(decoder, &input, &file, out.inside(), area.inside());
+        let mut log = lent::counts(self.log());
+        let answer = match self {
+            Call::Street { plan, steps, .. } => {
+                let beyond = decoder.beyond().expect("a decoder with streets");
+                beyond.street(*plan, *steps, log.inside(), out.inside(), area.inside())
+            }
+            _ => self.made(decoder, &input, &file, out.inside(), area.inside()),
+        };
         let input_kept = input == self.input() && file == self.file();
-        Effects { answer, out: out.taken_back(), area: area.taken_back(), input_kept }
+        Effects { answer, out: out.taken_back(), area: area.taken_back(), log: log.taken_back(), input_kept }
     }
 
     fn made(&self, decoder: &mut dyn Decoder, input: &[u8], file: &[u8], out: &mut [u8], area: &mut [i32]) -> Answer {
@@ -170,6 +189,7 @@ impl fmt::Display for Call {
                 write!(f, "load_block of profile {profile} from {state}, {wrong} wrong")?
             }
             Call::DecodeArray { sides, .. } => write!(f, "decode_array {sides:?}")?,
+            Call::Street { plan, steps, log, .. } => write!(f, "{steps} steps of {plan:?}, log of {log}")?,
         }
         let (out, area) = self.lengths();
         let input = self.input();

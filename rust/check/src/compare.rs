@@ -39,12 +39,14 @@ pub struct Comparison<'a> {
     pub mended: u64,
     /// How many operations on tallies were compared.
     pub operations: u64,
+    /// How many steps of streets were.
+    pub steps: u64,
 }
 
 impl<'a> Comparison<'a> {
     pub fn new(candidate: &'a mut dyn Decoder) -> Comparison<'a> {
         let (right, by_steps) = (Faulty::new(Fault::None), Faulty::by_steps());
-        Comparison { candidate, right, by_steps, met: [0; REFUSALS], pairs: 0, mended: 0, operations: 0 }
+        Comparison { candidate, right, by_steps, met: [0; REFUSALS], pairs: 0, mended: 0, operations: 0, steps: 0 }
     }
 
     /// Whether the candidate has the calls beyond decoding.
@@ -96,6 +98,9 @@ fn difference(call: &Call, found: &Effects, right: &Effects) -> Disagreement {
     }
     if found.area != right.area {
         text += &format!("\n  area: {}", area_difference(&found.area, &right.area));
+    }
+    if found.log != right.log {
+        text += &format!("\n  log given: {:?}\n  log right: {:?}", found.log, right.log);
     }
     if !found.input_kept {
         text += "\n  the input was changed";

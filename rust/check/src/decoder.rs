@@ -2,6 +2,7 @@
 
 use second::array::Sides;
 use second::profiles::Profile;
+use second::street::Plan;
 
 /// Refusal or 0, rounds, leaf count, mended places, and the place that 8 names, or the entry that 20 does.
 #[derive(Clone, Copy, PartialEq, Eq, Debug, Default)]
@@ -50,7 +51,7 @@ pub trait Decoder {
     }
 }
 
-/// Document 02, requests 4, 9, 11 and 12.
+/// Document 02, requests 4, 9, 10, 11 and 12.
 pub trait Beyond {
     fn decode_table(&mut self, file: &[u8], number: usize, word: &[u8], out: &mut [u8], area: &mut [i32]) -> Answer;
 
@@ -76,4 +77,7 @@ pub trait Beyond {
 
     /// A block in rows and columns; the leaf sum in the leaf count.
     fn decode_array(&mut self, sides: Sides, word: &[u8], out: &mut [u8], area: &mut [i32]) -> Answer;
+
+    /// A street and so many steps of it: the blocks sent in the leaf count, 1 in the rounds where a step answered that none is left.
+    fn street(&mut self, plan: Plan, steps: usize, log: &mut [u32], word: &mut [u8], area: &mut [i32]) -> Answer;
 }

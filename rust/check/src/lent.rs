@@ -45,3 +45,7 @@ pub fn bytes(length: usize) -> Lent<u8> {
 pub fn numbers(length: usize) -> Lent<i32> {
     Lent::new(length, |i| 1 + (i as i32).wrapping_mul(1_000_003))
 }
+
+pub fn counts(length: usize) -> Lent<u32> {
+    Lent::new(length, |i| 1_000 + (i as u32).wrapping_mul(1_000_003))
+}

@@ -16,6 +16,7 @@ pub mod loads;
 pub mod plan;
 pub mod random;
 mod small;
+pub mod streets;
 pub mod tables;
 pub mod tallies;
 pub mod values;

@@ -1,7 +1,9 @@
 //! What the comparison goes through.
 
 use crate::compare::{Comparison, Disagreement};
-use crate::{alike, arrays, bad_calls, blocks, code_calls, gaps, guarantee, loads, small, tables, tallies, values};
+use crate::{
+    alike, arrays, bad_calls, blocks, code_calls, gaps, guarantee, loads, small, streets, tables, tallies, values,
+};
 
 /// Few calls that still show every fault.
 pub fn directed(c: &mut Comparison) -> Result<(), Disagreement> {
@@ -34,7 +36,8 @@ fn directed_beyond(c: &mut Comparison) -> Result<(), Disagreement> {
     tallies::short(c, 96, 40)?;
     tallies::long(c, 97, 400, 18)?;
     loads::all(c, 30)?;
-    arrays::directed(c, 99)
+    arrays::directed(c, 99)?;
+    streets::directed(c)
 }
 
 /// What a layer goes through that has the calls by profile alone, and encodes and reads messages.
@@ -75,6 +78,9 @@ pub const BEYOND: &[Part] = &[
     ("loads", every_load),
     ("arrays", every_array),
     ("arrays that differ by an array of codewords", |c| arrays::pairs(c, 2_602)),
+    ("streets step by step", streets::many),
+    ("the longest streets", streets::full),
+    ("settings of streets at their limits and beyond", streets::limits),
 ];
 
 fn every_small_word(c: &mut Comparison) -> Result<(), Disagreement> {

@@ -5,6 +5,7 @@ use check::random::Random;
 pub use check::tables::record;
 use opponent::Reader;
 use second::{code, profiles};
+use std::ffi::OsStr;
 use std::io::{Read, Write};
 use std::path::PathBuf;
 use std::process::{Command, Stdio};
@@ -32,6 +33,14 @@ pub fn written_load() -> Vec<u8> {
     let ran = Command::new(built("write_load")).stdin(Stdio::null()).output().expect("the program runs");
     assert!(ran.status.success() && ran.stderr.is_empty());
     ran.stdout
+}
+
+/// What the program for planners says with these arguments, on standard output and on standard error.
+pub fn street<T: AsRef<OsStr>>(arguments: &[T]) -> (String, String) {
+    let ran = Command::new(built("street")).args(arguments).stdin(Stdio::null()).output().expect("the program runs");
+    assert!(ran.status.success());
+    let text = |bytes: Vec<u8>| String::from_utf8(bytes).expect("text");
+    (text(ran.stdout), text(ran.stderr))
 }
 
 /// What the program prints for a capture that reaches it in pieces of so many bytes.

@@ -167,6 +167,50 @@ pub enum Fault {
     ArrayAreaNotCleared,
     /// The area is cleared after 27.
     AreaClearedAfter27,
+    /// A meter that was refused sends the same block again.
+    SameBlockAgain,
+    /// A meter whose block was accepted as another codeword sends again.
+    OtherSentAgain,
+    /// Every later turn has all meters that were refused in the first.
+    AllFirstRefusedSend,
+    /// A refused meter sends again at once, not in the next turn.
+    RetriedAtOnce,
+    /// The last of the meters refused in the first turn does not send in the second.
+    SecondTurnSkipsOne,
+    /// One turn more than the retry limit is made.
+    OneTurnMore,
+    /// Tries are counted from 1.
+    TryFromOne,
+    /// Each turn begins the load anew.
+    OneLoadForEachTurn,
+    /// Another codeword is shown as right.
+    OtherShownRight,
+    /// The block's buffer holds the decoded word.
+    BufferHoldsDecoded,
+    /// The block's buffer is cleared where no meter is left.
+    BlockAfterNoneLeft,
+    /// The area keeps what was in it after a step.
+    StreetAreaNotCleared,
+    /// None is left as soon as the last meter has sent.
+    NoneLeftAtTheEnd,
+    /// A step is written in part where the log has room for a part.
+    TripleCut,
+    /// No step is made once the log is full.
+    LogEndsTheSteps,
+    /// 256 meters are refused 23.
+    Meters256Refused,
+    /// A retry limit of 15 is refused 24.
+    Retries15Refused,
+    /// 24 is tested before 23.
+    TwentyFourBefore23,
+    /// 14 is tested before 24.
+    FourteenBefore24,
+    /// 21 is tested before 14.
+    TwentyOneBefore14,
+    /// 7 is tested before 6.
+    SevenBefore6,
+    /// A refused street clears its buffers.
+    StreetWrittenOnRefusal,
 }
 
 impl Fault {
@@ -254,6 +298,28 @@ impl Fault {
         Fault::RowsUntested,
         Fault::ArrayAreaNotCleared,
         Fault::AreaClearedAfter27,
+        Fault::SameBlockAgain,
+        Fault::OtherSentAgain,
+        Fault::AllFirstRefusedSend,
+        Fault::RetriedAtOnce,
+        Fault::SecondTurnSkipsOne,
+        Fault::OneTurnMore,
+        Fault::TryFromOne,
+        Fault::OneLoadForEachTurn,
+        Fault::OtherShownRight,
+        Fault::BufferHoldsDecoded,
+        Fault::BlockAfterNoneLeft,
+        Fault::StreetAreaNotCleared,
+        Fault::NoneLeftAtTheEnd,
+        Fault::TripleCut,
+        Fault::LogEndsTheSteps,
+        Fault::Meters256Refused,
+        Fault::Retries15Refused,
+        Fault::TwentyFourBefore23,
+        Fault::FourteenBefore24,
+        Fault::TwentyOneBefore14,
+        Fault::SevenBefore6,
+        Fault::StreetWrittenOnRefusal,
     ];
 
     /// Whether the fault is one of the codeword test's steps.

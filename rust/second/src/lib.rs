@@ -1,5 +1,5 @@
-//! A second encoder, message reader, codeword test, decoder, gap, load of table files, capture reader, named tallies, generator of loads and
-//! decoder of arrays, written from the papers alone and for plainness, not speed: everything is found by search and by trying all codewords. The
+//! A second encoder, message reader, codeword test, decoder, gap, load of table files, capture reader, named tallies, generator of loads,
+//! street and decoder of arrays, written from the papers alone and for plainness, not speed: everything is found by search and by trying all codewords. The
 //! codeword test stands twice, by the coefficients and by the steps of document 02.
 //! It can be made wrong in named ways (`Fault`), to show that a comparison with it notices them.
 
@@ -16,6 +16,7 @@ pub mod load;
 pub mod profiles;
 mod reading;
 pub mod steps;
+pub mod street;
 pub mod table;
 pub mod tallies;
 

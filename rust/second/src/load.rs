@@ -78,26 +78,32 @@ fn refusal(profile: Option<Profile>, state: u32, asked: usize, room: usize, faul
     checks.into_iter().find(|(fails, _)| *fails).map_or(0, |(_, number)| number)
 }
 
+/// A block drawn from a state: the codeword sent, the block with its wrong places, and what the call says.
+pub(crate) fn drawn(p: Profile, state: u32, asked: usize, fault: Fault) -> (Vec<u8>, Vec<u8>, Drawn) {
+    let mut generator = Generator { state, made: 0, fault };
+    let message = generator.message(message_bits(p.m, p.r));
+    let sent = code::codeword(p.m, p.r, &message, fault);
+    let places = generator.places(sent.len(), asked);
+    let mut block = sent.clone();
+    places.iter().for_each(|place| block[*place] ^= 1);
+    let late = fault == Fault::WholeAtTheEndIsShort && generator.made == block.len();
+    (sent, block, Drawn { refusal: 0, short: places.len() < asked || late, state: generator.state })
+}
+
 /// Draws one block of that profile from a state.
 pub fn block(profile: usize, state: u32, asked: usize, word: &mut [u8], fault: Fault) -> Drawn {
-    let mut generator = Generator { state, made: 0, fault };
     let p = profiles::profile(profile);
     let refusal = refusal(p, state, asked, word.len(), fault);
     let (Some(p), 0) = (p, refusal) else {
-        if fault == Fault::RefusedCallSteps {
-            generator.next();
-        }
         if fault == Fault::RefusedBlockWritten {
             word.fill(0);
         }
-        return Drawn { refusal, short: false, state: generator.state };
+        let state = if fault == Fault::RefusedCallSteps { step(state, fault) } else { state };
+        return Drawn { refusal, short: false, state };
     };
-    let message = generator.message(message_bits(p.m, p.r));
-    word.copy_from_slice(&code::codeword(p.m, p.r, &message, fault));
-    let places = generator.places(word.len(), asked);
-    places.iter().for_each(|place| word[*place] ^= 1);
-    let late = fault == Fault::WholeAtTheEndIsShort && generator.made == word.len();
-    Drawn { refusal: 0, short: places.len() < asked || late, state: generator.state }
+    let (_, block, drawn) = drawn(p, state, asked, fault);
+    word.copy_from_slice(&block);
+    drawn
 }
 
 /// The capture of so many blocks from a start, or the refusal of its first block.

@@ -27,12 +27,25 @@ fn decoder(name: &str) -> Box<dyn Decoder> {
     }
 }
 
-/// How often each answer was given, how many pairs agreed, how many blocks were surely mended, and the operations on tallies.
+/// How often each answer was given, how many pairs agreed, how many blocks were surely mended, the operations on tallies and the steps of
+/// streets.
+#[derive(Default)]
 struct Met {
     answers: [u64; REFUSALS],
     pairs: u64,
     mended: u64,
     operations: u64,
+    steps: u64,
+}
+
+impl Met {
+    fn of(c: &Comparison) -> Met {
+        Met { answers: c.met, pairs: c.pairs, mended: c.mended, operations: c.operations, steps: c.steps }
+    }
+
+    fn calls(&self) -> u64 {
+        self.answers.iter().sum()
+    }
 }
 
 /// Takes parts of the plan until none is left.
@@ -42,22 +55,26 @@ fn parts(name: &str, next: &AtomicUsize) -> Result<Met, Disagreement> {
     let beyond = if c.goes_beyond() { plan::BEYOND } else { &[] };
     let all: Vec<&plan::Part> = plan::WHOLE.iter().chain(beyond).collect();
     while let Some((title, part)) = all.get(next.fetch_add(1, Ordering::Relaxed)) {
-        let (start, calls, pairs, mended, operations) = (Instant::now(), c.calls(), c.pairs, c.mended, c.operations);
+        let (start, before) = (Instant::now(), Met::of(&c));
         part(&mut c)?;
-        let (calls, pairs, mended, operations) =
-            (c.calls() - calls, c.pairs - pairs, c.mended - mended, c.operations - operations);
+        let met = Met::of(&c);
         println!(
-            "  {title}: {calls} calls, {pairs} pairs, {mended} mended, {operations} operations, {:.1} s",
+            "  {title}: {} calls, {} pairs, {} mended, {} operations, {} steps, {:.1} s",
+            met.calls() - before.calls(),
+            met.pairs - before.pairs,
+            met.mended - before.mended,
+            met.operations - before.operations,
+            met.steps - before.steps,
             start.elapsed().as_secs_f64()
         );
     }
-    Ok(Met { answers: c.met, pairs: c.pairs, mended: c.mended, operations: c.operations })
+    Ok(Met::of(&c))
 }
 
 fn by_threads(name: &str) -> Result<Met, Disagreement> {
     let next = AtomicUsize::new(0);
     let threads = std::thread::available_parallelism().map_or(1, |n| n.get());
-    let mut whole = Met { answers: [0; REFUSALS], pairs: 0, mended: 0, operations: 0 };
+    let mut whole = Met::default();
     std::thread::scope(|scope| {
         let workers: Vec<_> = (0..threads).map(|_| scope.spawn(|| parts(name, &next))).collect();
         for worker in workers {
@@ -66,17 +83,18 @@ fn by_threads(name: &str) -> Result<Met, Disagreement> {
             whole.pairs += met.pairs;
             whole.mended += met.mended;
             whole.operations += met.operations;
+            whole.steps += met.steps;
         }
         Ok(whole)
     })
 }
 
-/// Whether the plan meets this answer, which 16, 19 to 22, 27 and 28 are beyond decoding: those of tables, records, loads and arrays. 15 is the
-/// listing's, and what a script of tallies answers is not counted here.
+/// Whether the plan meets this answer, which 16, 19 to 24, 27 and 28 are beyond decoding: those of tables, records, loads, streets and arrays.
+/// 15 is the listing's, and what a script of tallies answers is not counted here.
 fn due(number: usize, beyond: bool) -> bool {
     match number {
         0..=14 => true,
-        16 | 19..=22 | 27 | 28 => beyond,
+        16 | 19..=24 | 27 | 28 => beyond,
         _ => false,
     }
 }
@@ -85,17 +103,19 @@ fn whole(name: &str) -> Result<(), Disagreement> {
     println!("{name} against the second decoder");
     let met = by_threads(name)?;
     let beyond = decoder(name).beyond().is_some();
-    for (number, times) in met.answers.iter().enumerate().filter(|(number, _)| due(*number, beyond)) {
-        println!("  answer {number:2}: {times}");
+    let due = |number: &usize| due(*number, beyond);
+    for number in (0..REFUSALS).filter(due) {
+        println!("  answer {number:2}: {}", met.answers[number]);
     }
     println!(
-        "  {} calls, {} pairs and {} operations on tallies agree, {} blocks are surely mended",
-        met.answers.iter().sum::<u64>(),
+        "  {} calls, {} pairs, {} operations on tallies and {} steps of streets agree, {} blocks are surely mended",
+        met.calls(),
         met.pairs,
         met.operations,
+        met.steps,
         met.mended
     );
-    match (0..REFUSALS).filter(|number| (met.answers[*number] > 0) != due(*number, beyond)).collect::<Vec<usize>>() {
+    match (0..REFUSALS).filter(|number| (met.answers[*number] > 0) != due(number)).collect::<Vec<usize>>() {
         none if none.is_empty() => Ok(()),
         wrong => Err(Disagreement(format!("answers that were to be met and were not, or the other way: {wrong:?}"))),
     }

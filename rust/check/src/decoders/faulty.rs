@@ -3,6 +3,7 @@
 use crate::decoder::{Answer, Beyond, Decoder};
 use second::array::Sides;
 use second::profiles::Profile;
+use second::street::Plan;
 use second::table::Table;
 use second::{Fault, Second};
 
@@ -98,5 +99,10 @@ impl Beyond for Faulty {
 
     fn decode_array(&mut self, sides: Sides, word: &[u8], out: &mut [u8], area: &mut [i32]) -> Answer {
         answer(self.0.decode_array(sides, word, out, area))
+    }
+
+    fn street(&mut self, plan: Plan, steps: usize, log: &mut [u32], word: &mut [u8], area: &mut [i32]) -> Answer {
+        let walked = self.0.street(plan, steps, log, word, area);
+        Answer::numbers(walked.refusal as u64, walked.none_left as u64, walked.steps.len() as u64)
     }
 }

@@ -3,6 +3,7 @@
 use crate::decoder::{Answer, Beyond, Decoder};
 use second::array::Sides;
 use second::profiles::Profile;
+use second::street::Plan;
 
 pub struct Library;
 
@@ -90,5 +91,13 @@ impl Beyond for Library {
         let Sides { row, column, rounds, leaves } = sides;
         let answer = calls::decode_array([row.m, row.r, column.m, column.r], [rounds, leaves], word, out, area);
         Answer { place: answer.place as u64, ..Answer::numbers(answer.refusal as u64, 0, answer.leaves) }
+    }
+
+    fn street(&mut self, plan: Plan, steps: usize, log: &mut [u32], word: &mut [u8], area: &mut [i32]) -> Answer {
+        let Plan { meters, retries, profile, start, wrong } = plan;
+        let walked = calls::street([meters, retries, profile], start, wrong, steps, log, word, area);
+        // bits that must be 0 would show as places mended
+        let numbers = Answer::numbers(walked.refusal as u64, walked.none_left as u64, walked.sent as u64);
+        Answer { mended: walked.unused as u64, ..numbers }
     }
 }

@@ -1,9 +1,9 @@
--- `load::check_start` meets its contract: each return is a check that fails, or none. Assumes nothing.
+-- `load::starts::check_start` meets its contract: each return is a check that fails, or none. Assumes nothing.
 use native.Mathlib.Omega.{arith}
 use borrow.Author.Tests.{not-true, not-false}
 use Rattle.load.specs.CallLaws.{may-start, no-entry, no-start, too-many}
-use Rattle.load.proofs.check_start.Statement.{statement}
-use Rattle.load.proofs.check_start.Tie as tie
+use Rattle.load.proofs.starts.check_start.Statement.{statement}
+use Rattle.load.proofs.starts.check_start.Tie as tie
 
 returns : tie.Need-returns
 returns c = no-entry _ _ _ (not-true _ (c .if1 .taken))

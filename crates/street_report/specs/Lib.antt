@@ -1,0 +1,3 @@
+-- Definitions: Report. ReportLaws has the laws.
+pub mod Report
+pub mod ReportLaws
