@@ -22,13 +22,15 @@
  *   rm_load_block                     n                      n of the profile
  *   rm_street                         n        8 n or more   n of the profile; any log
  *
+ * rm_decode_confidences and rm_decode_confidences_profile ask the lengths of rm_decode and rm_decode_profile; their input is n values.
+ *
  *   profile     0     1     2     3     4
  *   m, r      5,1   6,2   7,2   8,2   8,3
  *   n          32    64   128   256   256
  *   k           6    22    29    37    93
  *   8 n       256   512  1024  2048  2048
  *
- * The area may hold anything before a call. It is as it was after refusals 1 to 8, 14, 19 to 24 and 27, and where a street
+ * The area may hold anything before a call. It is as it was after refusals 1 to 8, 14, 18 to 24 and 27, and where a street
  * sent no block, and all zero after every other answer.
  *
  * A table file is the letters WMT, the bytes 0 and 1, a count of 1 to 32, and for each entry m (3 to 10), r (0 to m), rounds (1 to 16) in one
@@ -52,7 +54,7 @@ enum rm_most {
     RM_MOST_ARRAY_AREA = 512
 };
 
-/* Refusals by number, in the order of checking, except that 12 comes before 9, 10 and 11. */
+/* Refusals by number, in the order of checking, except that 12 comes before 9, 10 and 11, 17 before 11, and 18 in the place of 8. */
 enum rm_refusals {
     RM_ACCEPTED = 0,
     /* the calling program's */
@@ -75,6 +77,9 @@ enum rm_refusals {
     /* of whoever wrote the capture; 15 in listings alone */
     RM_HEADER = 15,
     RM_TRUNCATED = 16,      /* the capture ends inside a record */
+    /* in the calls for confidences alone */
+    RM_ERASED = 17,         /* a place ends with value 0 after the last round; the answer names the lowest */
+    RM_OUT_OF_RANGE = 18,   /* a value outside -2,047 to 2,047; the answer names the lowest place that holds one */
     /* of whoever wrote the table file */
     RM_TABLE_FILE = 19,     /* mark, version, count or length wrong */
     RM_TABLE_ENTRY = 20,    /* an entry outside the limits; the answer names the first */
@@ -114,8 +119,8 @@ static inline unsigned rm_mended(uint64_t answer) {
     return (unsigned)(answer >> 40 & 4095);
 }
 
-/* With refusal 8, the lowest place of the input that holds a byte above 1 (an index of the message in rm_encode); with 20, the first entry
- * outside the limits; 0 with any other answer. */
+/* With refusal 8, the lowest place of the input that holds a byte above 1 (an index of the message in rm_encode); with 17 and 18, the lowest
+ * place whose value ends as 0, or is outside the range; with 20, the first entry outside the limits; 0 with any other answer. */
 static inline unsigned rm_place(uint64_t answer) {
     return (unsigned)(answer >> 52);
 }
@@ -131,6 +136,14 @@ uint64_t rm_decode(size_t m, size_t r, size_t rounds, size_t leaves, const uint8
 
 uint64_t rm_decode_profile(size_t profile, const uint8_t *word, size_t word_len,
                            uint8_t *out, size_t out_len, int32_t *area, size_t area_len);
+
+/* A block of confidences: a signed value a place, -2,047 to 2,047, positive meaning bit 0. The output holds the accepted word's bits. From
+ * order 2 on exactly the round limit of rounds is made. Mended places are counted against the values' signs, a value of 0 as bit 0. */
+uint64_t rm_decode_confidences(size_t m, size_t r, size_t rounds, size_t leaves, const int16_t *values, size_t values_len,
+                               uint8_t *out, size_t out_len, int32_t *area, size_t area_len);
+
+uint64_t rm_decode_confidences_profile(size_t profile, const int16_t *values, size_t values_len,
+                                       uint8_t *out, size_t out_len, int32_t *area, size_t area_len);
 
 /* The gap between the greatest and the second absolute correlation of a word at order 1, where the leaf count stands: 0 on a tie, n of a
  * codeword. If 4 x the number of changed places is less than the gap, the changed block gets the same codeword. Refused 1, 5, 7 or 8. */

@@ -1,5 +1,5 @@
-/* Document 01's meter bench values, some gaps, a table, a script of tallies, blocks of a load and some arrays, called from C: ends with 0 only
- * where every one of them holds.
+/* Document 01's meter bench values, some blocks of confidences, gaps, a table, a script of tallies, blocks of a load and some arrays, called
+ * from C: ends with 0 only where every one of them holds.
  * It is C++ as well.
  *
  *   rt staticlib harness && cc -Iinclude samples/bench_values.c target/staticlib/libharness.a -o target/bench_values && target/bench_values
@@ -127,6 +127,41 @@ static void example(void) {
     bits("11111111000000000000000000000000", word);
     expect(rm_refusal(rm_decode_profile(0, word, n, out, n, area, 8 * n)) == RM_TIE, "the example", "the tie");
     expect(rm_decode_profile(5, word, n, out, n, area, 8 * n) == RM_PROFILE, "profile 5", "the refusal");
+}
+
+/* Four values at exponent 2. */
+static void values_are(const char *name, size_t r, const int16_t *values, unsigned refusal, unsigned made, uint32_t counted, unsigned mended,
+                       unsigned place, const char *decoded) {
+    uint64_t answer;
+    filled();
+    answer = rm_decode_confidences(2, r, made ? made : 1, LEAVES, values, 4, out, 4, area, 35);
+    expect(rm_refusal(answer) == refusal, name, "the refusal");
+    expect(rm_rounds(answer) == made && rm_leaves(answer) == counted, name, "a count");
+    expect(rm_mended(answer) == mended, name, "the number of mended places");
+    expect(rm_place(answer) == place, name, "the place");
+    expect(output_is(decoded, 4), name, "the output");
+    expect(area_is(refusal == RM_OUT_OF_RANGE ? 5 : 0, 35), name, "the area");
+}
+
+/* Document 02, request 2. */
+static void confidences(void) {
+    static const int16_t sum[] = {5, -7, 3, -2}, weak[] = {9, -1, -2, -9}, even[] = {0, 5, 5, 5}, odd[] = {0, -5, -5, -5};
+    static const int16_t two[] = {5, -6, 7, 8}, erased[] = {5, 0, 0, 0}, outside[] = {2047, -2048, 0, 3000}, least[] = {1, 1, 1, -32768};
+    int16_t block[32];
+    size_t p;
+    values_are("the sign of the sum", 0, sum, 0, 0, 0, 2, 0, "1111");
+    values_are("the greatest correlation", 1, weak, 0, 0, 1, 1, 0, "0011");
+    values_are("a value of 0 counts as bit 0", 1, even, 0, 0, 1, 0, 0, "0000");
+    values_are("and is mended to bit 1", 1, odd, 0, 0, 1, 1, 0, "1111");
+    values_are("two rounds", 2, two, 0, 2, 6, 0, 0, "0100");
+    values_are("a value that ends as 0", 2, erased, RM_ERASED, 1, 3, 0, 1, NULL);
+    values_are("-2,048", 1, outside, RM_OUT_OF_RANGE, 0, 0, 0, 1, NULL);
+    values_are("-32,768", 1, least, RM_OUT_OF_RANGE, 0, 0, 0, 3, NULL);
+    for (p = 0; p < 32; p++) block[p] = p == 9 ? -3 : 40;
+    filled();
+    expect(rm_mended(rm_decode_confidences_profile(0, block, 32, out, 32, area, 256)) == 1, "by profile", "the number of mended places");
+    expect(output_is("00000000000000000000000000000000", 32) && area_is(0, 256), "by profile", "the output");
+    expect(rm_decode_confidences_profile(5, block, 32, out, 32, area, 256) == RM_PROFILE, "confidences, profile 5", "the refusal");
 }
 
 static void gap_is(const char *name, size_t m, const char *block, uint32_t gap) {
@@ -286,6 +321,7 @@ int main(void) {
     orders_0_and_1();
     order_2();
     example();
+    confidences();
     gaps();
     tables();
     tallies();

@@ -22,23 +22,26 @@ use Rattle.profiles.specs.declared.Profile.{Profile}
 use Rattle.profiles.specs.Profiles.{profileOf}
 use Rattle.hadamard.specs.Correlation.{values as signs}
 use Rattle.rule.specs.Reading.{Outcome, accepted, refused, order1, reading}
-use Rattle.rule.specs.Decoding.{after, bufferChecks, limitChecks, limited, profileChecks, values, refusalOf, answerOf, outputOf, areaOf, zeros}
+use Rattle.rule.specs.Decoding.{after, bufferChecks, limitChecks, limited, profileChecks, values, refusalOf, outputOf, zeros}
 use Rattle.rule.specs.DecodingLaws.{after-cases, buffers-passed, limited-cases, limited-within}
 use Rattle.rule.specs.ProfileLaws.{profile-code, profile-passes}
 use Rattle.rule.specs.Calls.{Decodes, decodedPlace, valuesOf}
 use Rattle.rule.specs.Covariance.{reading-in}
 use Rattle.rule.specs.Outcomes.{CodewordIn}
-use Rattle.rule.specs.Counts.{leaf-most, reading-leaf}
+use Rattle.rule.specs.Counts.{leaf-leaves, reading-leaf}
 use Rattle.told.specs.Told.{numbersOf, numbersIn, Holds, Kept, Read}
 use Rattle.told.specs.declared.Told.{Told}
-use Rattle.told.specs.ToldLaws.{noise-clears, noise-number}
+use Rattle.told.specs.ToldLaws.{noise-number}
 use Rattle.told.specs.declared.Verdict.{Verdict}
 use Rattle.direct.specs.Direct.{Readable, Gives}
 use Rattle.readings.specs.Readings.{Ready}
-use Rattle.delivery.specs.Delivery.{Deliverable, delivered}
+use Rattle.delivery.specs.Delivery.{Deliverable, delivered, valuesIn}
+use Rattle.delivery.specs.DeliveryLaws as delivery
+use Rattle.delivery.specs.DeliveryLaws.{area-cleared, values-are}
 use Rattle.decoder.specs.Runs.{Runs}
-use Rattle.decoder.specs.Verdicts.{Delivered, Mendable, valuesIn}
-use Rattle.readings.specs.Answers.{Numbered, by-answer, reading-numbered}
+use Rattle.decoder.specs.Verdicts.{Delivered, Mendable}
+use Rattle.readings.specs.Answers.{reading-unlimited}
+use Rattle.steps.specs.Answers.{Numbered, by-answer, limited-numbered}
 
 -- ---- a reading
 
@@ -90,30 +93,17 @@ module _ {m r rounds leaves : ℕ} {word out : List ℕ} {xs ys us : List ℤ} {
   is-word : wordOf (2 ^ m) ys ≡ word
   is-word = front-word (omega (arith, room loads)) (front loads)
 
-  said : numbersIn a ≡ numbersOf o
-  said = rw is-word at (read .said)
-
-  holds : Holds (2 ^ m) o us
-  holds = rw is-word at (read .word)
+  tells : Read (2 ^ m) o us a
+  tells = rw is-word at read
 
   numbered : Numbered o
-  numbered = reading-numbered leaves r m rounds word
+  numbered = limited-numbered leaves (reading r m rounds word) (reading-unlimited r m rounds word)
 
-  room-us : length out ≤ length us
-  room-us = omega (arith, runs .output, same, room loads)
-
-  sized : {w : List ℕ} → Front (2 ^ m) w us → Front (length out) w us
-  sized {w} = subst (λ (n : ℕ). Front n w us) (sym (runs .output))
+  room-us : 2 ^ m ≤ length us
+  room-us = omega (arith, same, room loads)
 
   pub read-delivers : Deliverable (length out) a us
-  read-delivers =
-      by-answer (λ (x : Verdict) (y : Outcome). Holds (2 ^ m) y us → Deliverable (length out) x us)
-      (λ w k l h. front-bits room-us (sized h)) (λ why k l h. tt) a o numbered said holds
-
-  output-is : delivered a out us ≡ outputOf o out
-  output-is =
-      by-answer (λ (x : Verdict) (y : Outcome). Holds (2 ^ m) y us → delivered x out us ≡ outputOf y out)
-      (λ w k l h. front-word room-us (sized h)) (λ why k l h. refl) a o numbered said holds
+  read-delivers = delivery.read-delivers numbered tells out (runs .output) room-us
 
   -- a word that was kept is the word given
   kept-is : (x : Outcome) → Holds (2 ^ m) x us → t .kept ≡ true → outputOf x word ≡ word
@@ -124,7 +114,7 @@ module _ {m r rounds leaves : ℕ} {word out : List ℕ} {xs ys us : List ℤ} {
   kept-is (refused e k l) h q = refl
 
   pub read-gives : {out′ : List ℕ} → out′ ≡ delivered a out us → Gives o word out out′ t
-  read-gives e = record { answer = said; output = e ∙ output-is; kept = kept-is o holds }
+  read-gives e = record { answer = tells .said; output = e ∙ delivery.output-is numbered tells out (runs .output) room-us; kept = kept-is o (tells .word) }
 
 -- ---- a block of order 1 read from its bytes
 
@@ -142,18 +132,13 @@ module _ {m r rounds leaves : ℕ} {word out : List ℕ} {xs : List ℤ} (runs :
   one-leaf : r ≡ 1 → limited leaves (reading r m rounds word) ≡ order1 m (signs word)
   unfolding reading
   one-leaf e =
-      rw e (limited-within leaves (reading 1 m rounds word) (omega (arith, runs .one, leaf-most 1 (reading 1 m rounds word) (reading-leaf 1 m rounds word (omega arith)))))
+      rw e (limited-within leaves (reading 1 m rounds word) (omega (arith, runs .one, leaf-leaves 1 (reading 1 m rounds word) (reading-leaf 1 m rounds word (omega arith)))))
 
   pub direct-gives :
       {out′ : List ℕ} {t : Told} → r ≡ 1 → Gives (order1 m (signs word)) word out out′ t → Gives (limited leaves (reading r m rounds word)) word out out′ t
   direct-gives {out′} {t} e = subst (λ (o : Outcome). Gives o word out out′ t) (sym (one-leaf e))
 
 -- ---- a call: its answer from the reading's, the area cleared
-
-area-cleared : (xs : List ℤ) (a : Verdict) (o : Outcome) → Numbered o → numbersIn a ≡ numbersOf o → areaOf o xs ≡ zeros xs
-area-cleared xs =
-    by-answer (λ (x : Verdict) (y : Outcome). areaOf y xs ≡ zeros xs) (λ d k l. refl)
-    (λ why k l. rw (noise-clears why))
 
 not-8 : (a : Verdict) (o : Outcome) → Numbered o → numbersIn a ≡ numbersOf o → refusalOf o ≡ 8 → ⊥
 not-8 = by-answer (λ (x : Verdict) (y : Outcome). refusalOf y ≡ 8 → ⊥) (λ d k l z. omega arith) (λ why k l z. omega (arith, noise-number why))
@@ -165,15 +150,12 @@ module _ (m : ℕ) (word out : List ℕ) where
       by-answer (λ (x : Verdict) (y : Outcome). CodewordIn m r y → (kept ≡ true → outputOf y word ≡ word) → Delivered m word (outputOf y out) kept x)
       (λ d k l c g. (c .word, g)) (λ why k l c g. tt)
 
-  values-are : (a : Verdict) (o : Outcome) → Numbered o → numbersIn a ≡ numbersOf o → valuesIn m word (outputOf o out) a ≡ answerOf m word o
-  values-are = by-answer (λ (x : Verdict) (y : Outcome). valuesIn m word (outputOf y out) x ≡ answerOf m word y) (λ d k l. refl) (λ why k l. refl)
-
 module _ {m r rounds leaves : ℕ} {word out : List ℕ} {xs : List ℤ} (runs : Runs m r rounds leaves word out xs) where
   abbrev result : Outcome
   result = limited leaves (reading r m rounds word)
 
   numbered-result : Numbered result
-  numbered-result = reading-numbered leaves r m rounds word
+  numbered-result = limited-numbered leaves (reading r m rounds word) (reading-unlimited r m rounds word)
 
   codeword-in : CodewordIn m r result
   codeword-in =

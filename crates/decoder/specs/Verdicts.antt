@@ -1,19 +1,12 @@
--- What a call returns of what its reading told. Assumes nothing.
+-- What counting the places mended asks. Assumes nothing.
 use Prim.Native.Nat.{ℕ}
 use mathlib.Core.Path.{_≡_}
 use mathlib.Core.Bool.{Bool, true}
 use mathlib.Core.List.{List}
-use Rattle.words.specs.Word.{IsWord, distance}
-use Rattle.rule.specs.Decoding.{Values, values}
+use Rattle.words.specs.Word.{IsWord}
 use Rattle.told.specs.declared.Told.{Told}
 use Rattle.told.specs.declared.Verdict.{Verdict}
 use Rattle.told.specs.declared.Verdict.the-variants.{Accepted, Refused}
-use Rattle.told.specs.Told.{noiseNumber}
-
--- what was told of the word w, of exponent m, with the output v
-abbrev pub valuesIn : ℕ → List ℕ → List ℕ → Verdict → Values
-valuesIn m w v (Accepted k l) = values 0 k l (distance m w v)
-valuesIn m w v (Refused why k l) = values (noiseNumber why) k l 0
 
 -- where a word was accepted, the output v holds it, and it is the word given where that was kept
 abbrev pub Delivered : ℕ → List ℕ → List ℕ → Bool → Verdict → Type 0

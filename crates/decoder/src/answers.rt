@@ -2,7 +2,8 @@
 ghost use mathlib.Core.Path.{_≡_};
 ghost use Prim.Native.Nat.{_≤_};
 ghost use Rattle.rule.specs.Calls.{valuesOf, decodedPlace};
-ghost use Rattle.decoder.specs.Verdicts.{valuesIn, Mendable};
+ghost use Rattle.delivery.specs.Delivery.{valuesIn};
+ghost use Rattle.decoder.specs.Verdicts.{Mendable};
 use delivery::refusal_of;
 use refusals::Decoded;
 use told::Told;
@@ -24,7 +25,7 @@ pub fn answered(told: Told, m: usize, word: &[u8], out: &[u8]) -> Decoded
             Decoded::Accepted(rounds, leaves, mended)
         }
         Verdict::Refused(noise, rounds, leaves) => Decoded::Refused(
-            refusal_of(noise),
+            refusal_of(noise, 0),
             rounds,
             leaves,
         ),

@@ -1,2 +1,3 @@
--- Definitions: Delivery.
+-- Definitions: Delivery. DeliveryLaws has laws.
 pub mod Delivery
+pub mod DeliveryLaws

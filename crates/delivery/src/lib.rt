@@ -6,7 +6,7 @@ ghost use mathlib.Core.Path.{_≡_};
 ghost use lib.ListN.{length};
 ghost use Rattle.refusals.specs.Refusals.{numberOf, placeOf};
 ghost use Rattle.told.specs.Told.{noiseNumber};
-ghost use Rattle.delivery.specs.Delivery.{Deliverable, delivered};
+ghost use Rattle.delivery.specs.Delivery.{Deliverable, delivered, noisePlace};
 
 // The decoded word, where there is one, to the output.
 pub fn deliver(answer: Verdict, area: &[i32], out: &mut [u8])
@@ -21,15 +21,15 @@ pub fn deliver(answer: Verdict, area: &[i32], out: &mut [u8])
     }
 }
 
-// The refusal of a call whose reading gives no word; which place it names, where it names one, is for the caller to say.
-pub fn refusal_of(noise: Noise) -> Refusal
-    ensures { λ why. ⌜ (numberOf why ≡ noiseNumber noise) × (placeOf why ≡ 0) ⌝ }
+// The refusal of a call whose reading gives no word, with the place where a value ended as 0.
+pub fn refusal_of(noise: Noise, place: usize) -> Refusal
+    ensures { λ why. ⌜ (numberOf why ≡ noiseNumber noise) × (placeOf why ≡ noisePlace place noise) ⌝ }
 {
     match noise {
         Noise::Tie => Refusal::Tie,
         Noise::Flipping => Refusal::Flipping,
         Noise::Unsettled => Refusal::Unsettled,
         Noise::TooManyLeaves => Refusal::TooManyLeaves,
-        Noise::Erased => Refusal::Erased(0),
+        Noise::Erased => Refusal::Erased(place),
     }
 }

@@ -22,7 +22,7 @@ use Rattle.hadamard.specs.AffineWords.{bit-affine, parity-xor, word-affi
 
 -- ---- signs
 
-signed-bits : (x y : ℕ) (z : ℤ) → x < 2 → y < 2 → signed ((x + y) % 2) z ≡ signed x (signed y z)
+pub signed-bits : (x y : ℕ) (z : ℤ) → x < 2 → y < 2 → signed ((x + y) % 2) z ≡ signed x (signed y z)
 signed-bits zero y z h k = let e : (0 + y) % 2 ≡ y = omega arith in ap (λ (x : ℕ). signed x z) e
 signed-bits (suc zero) zero z h k = refl
 signed-bits (suc zero) (suc zero) z h k = sym (negℤ-negℤ z)
@@ -50,7 +50,7 @@ sign-sum b x h =
     sign-signed ((b + x) % 2) ∙ signed-sum x b (b + x) (pos 1) (omega arith)
     ∙ ap (λ (y : ℕ). signed (x % 2) (signed y (pos 1))) low ∙ ap (signed (x % 2)) (sym (sign-signed b))
 
-sum-signed : (n t : ℕ) (f : ℕ → ℤ) → sumBelowℤ n (λ p. signed t (f p)) ≡ signed t (sumBelowℤ n f)
+pub sum-signed : (n t : ℕ) (f : ℕ → ℤ) → sumBelowℤ n (λ p. signed t (f p)) ≡ signed t (sumBelowℤ n f)
 sum-signed n zero f = refl
 sum-signed n (suc t) f = sumℤ-neg n f
 
@@ -147,7 +147,7 @@ signs-twice (suc n) f h =
     ∙ ap₂ _+ℤ_ (signs-twice n f h) (sign-twice (f n) (h n))
     ∙ ap pos (add-one n)
 
-signed-near : (z : ℤ) → signed (constantOf z) z ≡ pos (natAbs z)
+pub signed-near : (z : ℤ) → signed (constantOf z) z ≡ pos (natAbs z)
 signed-near (pos n) = refl
 signed-near (negsuc n) = refl
 

@@ -13,7 +13,7 @@ use Rattle.hadamard.specs.AffineWords.{affine-codeword, affine-mask}
 use Rattle.hadamard.specs.CorrelationLaws.{near-distance}
 
 -- the affine words of two masks are half the places apart
-affine-apart : (m u v s t : ℕ) → u < 2 ^ m → v < 2 ^ m → u ≢ v → 2 ^ m ≤ 2 * distance m (affine m u s) (affine m v t)
+pub affine-apart : (m u v s t : ℕ) → u < 2 ^ m → v < 2 ^ m → u ≢ v → 2 ^ m ≤ 2 * distance m (affine m u s) (affine m v t)
 affine-apart zero u v s t hu hv ne = absurd (ne (lt-one hu ∙ sym (lt-one hv)))
 affine-apart (suc m) u v s t hu hv ne =
     let e : suc m - 1 ≡ m = omega arith in

@@ -12,6 +12,7 @@ mod by_table;
 mod load_calls;
 mod street_calls;
 mod tally_calls;
+mod value_calls;
 
 #[no_mangle]
 pub extern "C" fn rm_encode(m: usize, r: usize, message: &[u8], out: &mut [u8]) -> u64

@@ -14,7 +14,8 @@ use Rattle.peaks.specs.Peaks.{joined}
 use Rattle.peaks.specs.Packing.{packed-size, correlation-size, correlation-packed}
 use Rattle.halves.specs.Halves.{packed, signsPacked, firstOf, secondOf, Packed}
 use Rattle.halves.specs.PairNumbers.{packed-small, first-packed, second-packed}
-use Rattle.nearest.proofs.Values.{value-at, value-size, joined-whole}
+use Rattle.peaks.specs.Joined.{joined-whole}
+use Rattle.nearest.proofs.Values.{value-at, value-size}
 use Rattle.nearest.proofs.Lent.{Layout, Correlated, Packing}
 
 module _ {m k n q : ℕ} {xs : List ℤ} (a : Layout m k n q xs) (em : suc k ≡ m) (most : k ≤ 9) where

@@ -19,7 +19,8 @@ use Rattle.quads.specs.QuadLaws.{correlation-quad, signs-size, Numbers, numbers
 use Rattle.quarter_packing.specs.QuarterSigns.{quadSigns}
 use Rattle.quarter_sizes.specs.Sized.{Quads}
 use Rattle.quarters.specs.Quarters.{firsts, lasts}
-use Rattle.nearest.proofs.Values.{value-at, value-size, joined-whole}
+use Rattle.peaks.specs.Joined.{joined-whole}
+use Rattle.nearest.proofs.Values.{value-at, value-size}
 use Rattle.nearest.proofs.Lent.{Layout, Correlated, Packing}
 
 module _ {m k n q : ℕ} {xs : List ℤ} (a : Layout m k n q xs) (em : suc (suc k) ≡ m) (least : 2 ≤ k) (most : k ≤ 5) where

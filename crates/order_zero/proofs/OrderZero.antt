@@ -7,9 +7,9 @@ use lib.Bits.{and-zero-l}
 use lib.Count.{ones}
 use lib.Dec.{lit<}
 use lib.IntN.{ℤ, pos, negsuc}
-use lib.ListN.{replicate, getD-replicate}
+use lib.ListN.{replicate}
 use Rattle.words.specs.Sum.{sumBelow, sumBelowℤ}
-use Rattle.words.specs.SumLaws.{sum-ext, length-tabulate, bit-tabulate}
+use Rattle.words.specs.SumLaws.{sum-ext}
 use Rattle.words.specs.TopBit.{ones-zero}
 use Rattle.words.specs.Word.{bit, IsWord, distance}
 use Rattle.area.specs.Area.{at}
@@ -18,6 +18,7 @@ use Rattle.hadamard.specs.AffineWords.{bit-affine}
 use Rattle.hadamard.specs.CorrelationLaws.{correlation-zero, near-distance, far-distance}
 use Rattle.rule.specs.Reading.{accepted, refused, constant, bySum, order0}
 use Rattle.told.specs.Told.{Read}
+use Rattle.told.specs.ToldLaws.{constant-read}
 use Rattle.told.specs.declared.Noise.the-variants.{Tie}
 use Rattle.told.specs.declared.Verdict.the-variants.{Accepted, Refused}
 
@@ -41,17 +42,6 @@ module _ (m : ℕ) {n x : ℕ} where
   sum-ones (over e) h = absurd (omega arith)
   sum-ones (under e) h = refl
 
--- an area of one value throughout
-filled : (m : ℕ) {v k : ℕ} {ys : List ℤ} → v < 2 → k ≡ 2 ^ m → ys ≡ replicate k (pos v) → Read (2 ^ m) (accepted (constant m v) 0 0) ys (Accepted 0 0)
-filled m {v} {k} {ys} h ek e = record {
-  said = refl;
-  word = record {
-    size = length-tabulate (2 ^ m) _;
-    each = λ p l. rw (e, bit-tabulate (2 ^ m) (λ q. v) p l) (getD-replicate k p (pos v) (pos 0) (omega arith));
-    bits = λ p l. rw (bit-tabulate (2 ^ m) (λ q. v) p l) h;
-  };
-}
-
 -- a word with k ones
 module _ {m k : ℕ} {w : List ℕ} (hw : IsWord m w) (ek : k ≡ sumBelow (2 ^ m) (bit w)) where
   zeros-distance : distance m w (affine m 0 0) ≡ k
@@ -73,8 +63,8 @@ module _ {m k : ℕ} {w : List ℕ} (hw : IsWord m w) (ek : k ≡ sumBelow (2 ^ 
   module _ {n : ℕ} {ys : List ℤ} (en : n ≡ 2 ^ m) where
     pub zero-zeros : 2 * k < 2 ^ m → ys ≡ replicate n (pos 0) → Read (2 ^ m) (order0 m (values w)) ys (Accepted 0 0)
     unfolding order0
-    zero-zeros h e = rw (sum-zeros m weighed h) (filled m (lit< tt) en e)
+    zero-zeros h e = rw (sum-zeros m weighed h) (constant-read m (lit< tt) en e)
 
     pub zero-ones : 2 ^ m < 2 * k → ys ≡ replicate n (pos 1) → Read (2 ^ m) (order0 m (values w)) ys (Accepted 0 0)
     unfolding order0
-    zero-ones h e = rw (sum-ones m weighed h) (filled m (lit< tt) en e)
+    zero-ones h e = rw (sum-ones m weighed h) (constant-read m (lit< tt) en e)

@@ -1,4 +1,4 @@
--- Definitions: Packing, ByTable, Loads, Streets, Arrays. PackingLaws, ByTableLaws, LoadLaws and StreetLaws have laws.
+-- Definitions: Packing, ByTable, Loads, Streets, Arrays, Confidences. PackingLaws, ByTableLaws, LoadLaws and StreetLaws have laws.
 pub mod Packing
 pub mod PackingLaws
 pub mod ByTable
@@ -8,3 +8,4 @@ pub mod LoadLaws
 pub mod Streets
 pub mod StreetLaws
 pub mod Arrays
+pub mod Confidences

@@ -15,7 +15,7 @@ use Rattle.codec.specs.Calls as codec
 use Rattle.rule.specs.Reading.{Outcome}
 use Rattle.rule.specs.Decoding.{Values, values, refusalOf, answerOf, outputOf, areaOf}
 
--- refusal or 0 in the lowest 8 bits, rounds in 8, leaf count in 24, mended places in 12, the place named by 8 in 12
+-- refusal or 0 in the lowest 8 bits, rounds in 8, leaf count in 24, mended places in 12, the place named in 12
 abbrev pub pack : ℕ → ℕ → ℕ → ℕ → ℕ → ℕ
 pack number rounds leaves mended place =
     number + rounds % 256 * 256 + leaves % 16777216 * 65536 + mended % 4096 * 1099511627776 + place % 4096 * 4503599627370496
@@ -45,11 +45,15 @@ pub record Returns (cs : List Check) (x s before after : List ℕ) (returned : �
 abbrev pub packTest : List Check → List ℕ → Bool → ℕ
 packTest cs s is = pack (firstRefusal cs) (cond (eqb (firstRefusal cs) 0) (indicator is) 0) 0 0 (placeNamed s (firstRefusal cs))
 
--- a decoding of exponent m, whose outcome is o
-pub record ReturnsDecoded (m : ℕ) (o : Outcome) (word out out′ : List ℕ) (area area′ : List ℤ) (returned : ℕ) : Type 0 where
-  pub packed : returned ≡ packValues (answerOf m word o) (placeNamed word (refusalOf o))
+-- a decoding of a word of exponent m, whose outcome is o, which names the place p
+pub record ReturnsAnswer (m : ℕ) (o : Outcome) (word : List ℕ) (p : ℕ) (out out′ : List ℕ) (area area′ : List ℤ) (returned : ℕ) : Type 0 where
+  pub packed : returned ≡ packValues (answerOf m word o) p
   pub output : out′ ≡ outputOf o out
   pub lent : area′ ≡ areaOf o area
+
+-- of bits: only 8 names a place
+abbrev pub ReturnsDecoded : ℕ → Outcome → List ℕ → List ℕ → List ℕ → List ℤ → List ℤ → ℕ → Type 0
+ReturnsDecoded m o word out out′ area area′ returned = ReturnsAnswer m o word (placeNamed word (refusalOf o)) out out′ area area′ returned
 
 -- a call of the gap
 pub record ReturnsGap (m : ℕ) (word : List ℕ) (area area′ : List ℤ) (returned : ℕ) : Type 0 where

@@ -18,17 +18,17 @@ use Rattle.codec.specs.declared.Tested.{Tested}
 use Rattle.codec.specs.declared.Tested.the-variants.{Codeword, NotCodeword, Refused}
 use Rattle.codec.specs.Calls.{Calls, Tests, testedNumber, testedPlace, verdict}
 use Rattle.rule.specs.Reading.{Outcome}
-use Rattle.rule.specs.Calls.{Decodes, decodedPlace, valuesOf}
+use Rattle.rule.specs.Calls.{Answers, decodedPlace, valuesOf}
 use Rattle.gap.specs.declared.Measured.{Measured}
 use Rattle.gap.specs.Calls.{Measures, measuredValues}
-use Rattle.packing.specs.Packing.{pack, packGap, packTest, packValues, yesOf, Returns, ReturnsDecoded, ReturnsGap}
+use Rattle.packing.specs.Packing.{pack, packGap, packTest, packValues, yesOf, Returns, ReturnsAnswer, ReturnsGap}
 
 pub call-returns : {cs : List Check} {x s before after : List ℕ} {a : Answer} {v : ℕ}
     → Calls cs x s before after a → v ≡ pack (answerNumber a) 0 0 0 (answerPlace a) → Returns cs x s before after v
 call-returns c e = record { packed = e ∙ ap₂ (λ (n p : ℕ). pack n 0 0 0 p) (c .number) (c .place); output = c .output }
 
-pub decoding-returns : {m : ℕ} {o : Outcome} {word out out′ : List ℕ} {area area′ : List ℤ} {d : Decoded} {v : ℕ}
-    → Decodes m o word out out′ area area′ d → v ≡ packValues (valuesOf d) (decodedPlace d) → ReturnsDecoded m o word out out′ area area′ v
+pub decoding-returns : {m : ℕ} {o : Outcome} {word : List ℕ} {p : ℕ} {out out′ : List ℕ} {area area′ : List ℤ} {d : Decoded} {v : ℕ}
+    → Answers m o word p out out′ area area′ d → v ≡ packValues (valuesOf d) (decodedPlace d) → ReturnsAnswer m o word p out out′ area area′ v
 decoding-returns c e = record { packed = e ∙ ap₂ packValues (c .answer) (c .place); output = c .output; lent = c .lent }
 
 pub gap-returns : {m : ℕ} {word : List ℕ} {area area′ : List ℤ} {a : Measured} {v : ℕ}

@@ -1,4 +1,4 @@
-// Answers packed in 64 bits, lowest first: refusal or 0 in 8, rounds in 8, leaf count in 24, mended places in 12, the place named by 8 in 12.
+// Answers packed in 64 bits, lowest first: refusal or 0 in 8, rounds in 8, leaf count in 24, mended places in 12, the place named in 12.
 ghost use mathlib.Core.Path.{_≡_};
 ghost use Rattle.refusals.specs.Refusals.{answerNumber, answerPlace};
 ghost use Rattle.codec.specs.Calls.{testedNumber, testedPlace};

@@ -7,3 +7,5 @@ pub mod Found
 pub mod Packing
 pub mod Stored
 pub mod SamePeak
+pub mod Casts
+pub mod Joined

@@ -22,20 +22,20 @@ use Rattle.direction.specs.Direction.{project, cosetOf}
 use Rattle.direction.specs.Insert.{highest-top}
 use Rattle.direction.specs.Projected.{word-project}
 use Rattle.cosets.specs.Votes.{Projects, Tally, castVote}
-use Rattle.rule.specs.Reading.{Outcome, abstained, abstains, leavesOf, vote, votes, reading, roundLeaves}
+use Rattle.rule.specs.Reading.{Outcome, abstained, abstains, leavesOf, reading, roundLeaves, vote, votes}
 use Rattle.rule.specs.Decoding.{limited}
 use Rattle.rule.specs.DecodingLaws.{limited-within}
-use Rattle.rule.specs.Counts.{reading-noise}
 use Rattle.rule.specs.Rounds.{vote-once}
 use Rattle.told.specs.Told.{numbersOf, numbersIn, Holds, Read, Kept}
 use Rattle.told.specs.declared.Told.{Told}
 use Rattle.told.specs.declared.Verdict.{Verdict}
 use Rattle.told.specs.declared.Verdict.the-variants.{Accepted, Refused}
-use Rattle.steps.specs.Steps.{countIn, voteOf, Voter, Unmoved}
+use Rattle.steps.specs.Steps.{countIn, countOf, voteOf, Voter, Unmoved}
+use Rattle.steps.specs.Answers.{Numbered, by-answer, count-is, counted, limited-numbered, spent}
 use Rattle.steps.specs.declared.Count.{Count}
 use Rattle.steps.specs.declared.Count.the-variants.{Done, Exhausted}
-use Rattle.readings.specs.Readings.{countOf, Ready, Voted}
-use Rattle.readings.specs.Answers.{Numbered, by-answer, count-is, counted, reading-numbered, spent}
+use Rattle.readings.specs.Answers.{reading-unlimited}
+use Rattle.readings.specs.Readings.{Ready, Voted}
 
 -- a round: exponent, order and round limit of its readings, the leaves left, the word of exponent m + 1, and the length of the area
 pub record Round : Type 0 where
@@ -272,7 +272,7 @@ module _ {f : Round} {ys zs us : List ℤ} {i used absent a : ℕ} {told : Told}
   votes-few p = omega (arith, sum-most i 1 (λ j. vote (suc j) (project m (suc j) word) (readAt f j) p) (λ j l. omega (arith, vote-once (suc j) (project m (suc j) word) (readAt f j) p)))
 
   numbered : Numbered o
-  numbered = reading-numbered (left - used) r m limit (project m (suc i) word)
+  numbered = limited-numbered (left - used) (readAt f i) (reading-unlimited r m limit (project m (suc i) word))
 
   voter : Voter m answer (back a zs us)
   voter =
@@ -339,7 +339,7 @@ module _ {f : Round} {ys zs us ts : List ℤ} {i used absent a : ℕ} {told : To
   poll = answered .lent .stage .poll
 
   counts-is : count ≡ countOf (left - used) (leavesOf (readAt f i)) (abstains (readAt f i))
-  counts-is = counts ∙ ap countIn (said answered) ∙ count-is (left - used) (readAt f i) (reading-noise r m limit (project m (suc i) word))
+  counts-is = counts ∙ ap countIn (said answered) ∙ count-is (left - used) (readAt f i) (reading-unlimited r m limit (project m (suc i) word))
 
   pub cast-front : Front (2 ^ suc m) word ts
   cast-front = front-kept (front-back answered) (votes .below)

@@ -32,7 +32,7 @@ use Rattle.flips.specs.Flips.{flipOf}
 use Rattle.steps.specs.declared.Count.{Count}
 use Rattle.steps.specs.declared.Count.the-variants.{Done, Exhausted}
 use Rattle.readings.specs.Readings.{Ready, Voted}
-use Rattle.readings.specs.Answers.{counted, spent}
+use Rattle.steps.specs.Answers.{counted, spent}
 use Rattle.readings.proofs.Flips.{Polled, abstained-lt, polled-tally, still-is, word-flipped, word-settled}
 
 -- ---- orders 0 and 1

@@ -1,3 +1,3 @@
--- What the functions ask and promise: Readings. Laws: Answers.
+-- What the functions ask and promise: Readings. Answers has laws.
 pub mod Readings
 pub mod Answers

@@ -1,15 +1,13 @@
 -- What a reading and a round ask and promise. Assumes nothing.
 use Prim.Native.Nat.{ℕ, suc, _+_, _*_, _^_, _≤_, _<_}
 use mathlib.Core.Path.{_≡_}
-use mathlib.Core.Bool.{cond}
 use mathlib.Core.List.{List}
 use lib.ListN.{length}
-use lib.Dec.{ltb}
 use lib.IntN.{ℤ, pos}
 use Rattle.area.specs.Area.{at, Bits, SameFront, wordOf}
 use Rattle.rule.specs.Reading.{Outcome, abstained, votes, roundLeaves}
+use Rattle.steps.specs.Steps.{countOf}
 use Rattle.steps.specs.declared.Count.{Count}
-use Rattle.steps.specs.declared.Count.the-variants.{Done, Exhausted}
 
 -- a reading may start on the word in the front
 pub record Ready (m r left : ℕ) (xs : List ℤ) : Type 0 where
@@ -19,10 +17,6 @@ pub record Ready (m r left : ℕ) (xs : List ℤ) : Type 0 where
   pub room : 4 * 2 ^ m ≤ length xs
   pub bits : Bits (2 ^ m) xs
   pub few : left ≤ 1000000
-
--- the leaf count l where `left` are left, a directions abstaining
-abbrev pub countOf : ℕ → ℕ → ℕ → Count
-countOf left l a = cond (ltb left l) Exhausted (Done l a)
 
 -- what a round of a word of exponent m + 1 leaves: the word, and the votes after it
 pub record Voted (m left : ℕ) (lower : List ℕ → Outcome) (xs ys : List ℤ) (count : Count) : Type 0 where

@@ -74,6 +74,13 @@ rest-passes [] ds e = sym e
 rest-passes (check n true ∷ cs) ds e = rest-passes cs ds e
 rest-passes (check n false ∷ cs) ds e = refl
 
+-- the second group matters by its number alone
+pub rest-same : (cs ds ds′ : List Check) → firstRefusal ds ≡ firstRefusal ds′ → firstRefusal (cs ++ ds) ≡ firstRefusal (cs ++ ds′)
+unfolding firstRefusal
+rest-same [] ds ds′ e = e
+rest-same (check n true ∷ cs) ds ds′ e = rest-same cs ds ds′ e
+rest-same (check n false ∷ cs) ds ds′ e = refl
+
 -- ---- the area
 
 -- every refusal of the checks leaves the area as it is

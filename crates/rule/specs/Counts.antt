@@ -28,7 +28,7 @@ abbrev pub Rounds : ℕ → ℕ → Outcome → Type 0
 Rounds j i (accepted d k l) = (j < k) × (k ≤ i)
 Rounds j i (refused e k l) = ((e ≡ 10) × (k ≡ i)) ⊎ ((e ≡ 11) × ((j < k) × (k ≤ i)))
 
-order0-leaf : (m : ℕ) (v : ℕ → ℤ) → Leaf 0 (order0 m v)
+pub order0-leaf : (m : ℕ) (v : ℕ → ℤ) → Leaf 0 (order0 m v)
 unfolding order0
 order0-leaf m v = go (sumBelowℤ (2 ^ m) v)
   where
@@ -37,7 +37,7 @@ order0-leaf m v = go (sumBelowℤ (2 ^ m) v)
     go (pos (suc k)) = (refl, refl)
     go (negsuc k) = (refl, refl)
 
-order1-leaf : (m : ℕ) (v : ℕ → ℤ) → Leaf 1 (order1 m v)
+pub order1-leaf : (m : ℕ) (v : ℕ → ℤ) → Leaf 1 (order1 m v)
 unfolding order1
 order1-leaf m v =
     let size : ℕ → ℕ = λ u. natAbs (correlation m v u) in
@@ -129,14 +129,14 @@ module _ (m : ℕ) (lower : List ℕ → Outcome) (r b : ℕ) (bound : (v : List
       let later = rounds-most left (suc k) (l + roundLeaves m lower w) (addWords w (flips m lower w)) in
       round-cases m lower r left k l w (λ o. leavesOf o ≤ l + suc left * ((2 ^ suc m - 1) * b)) (λ e. omega arith) (omega arith) (omega arith)
 
-pub leaf-most : (r : ℕ) (o : Outcome) → Leaf r o → leavesOf o ≤ r
-leaf-most r (accepted d k l) h = omega arith
-leaf-most r (refused e k l) h = omega arith
+pub leaf-leaves : (r : ℕ) (o : Outcome) → Leaf r o → leavesOf o ≡ r
+leaf-leaves r (accepted d k l) h = h .1
+leaf-leaves r (refused e k l) h = h .1 .1
 
 pub reading-most : (r m limit : ℕ) (w : List ℕ) → leavesOf (reading r m limit w) ≤ mostLeaves r m limit
 unfolding reading mostLeaves
-reading-most zero m limit w = leaf-most 0 (order0 m (values w)) (order0-leaf m (values w))
-reading-most (suc zero) m limit w = leaf-most 1 (order1 m (values w)) (order1-leaf m (values w))
+reading-most zero m limit w = omega (arith, leaf-leaves 0 (order0 m (values w)) (order0-leaf m (values w)))
+reading-most (suc zero) m limit w = omega (arith, leaf-leaves 1 (order1 m (values w)) (order1-leaf m (values w)))
 reading-most (suc (suc r)) m limit w =
     le-trans (rounds-most (pred m) (reading (suc r) (pred m) limit) (suc (suc r)) (mostLeaves (suc r) (pred m) limit) (reading-most (suc r) (pred m) limit) limit 0 0 w)
     (omega arith)

@@ -59,7 +59,8 @@ module _ (cs : List Check) where
       go true e = h (eqb-true (firstRefusal cs) 0 e)
       go false e = refl
 
-  after-same : (ds : List Check) (o : Outcome) → firstRefusal cs ≡ firstRefusal ds → after cs o ≡ after ds o
+  -- an answer depends on its checks' number alone
+  pub after-same : (ds : List Check) (o : Outcome) → firstRefusal cs ≡ firstRefusal ds → after cs o ≡ after ds o
   unfolding after
   after-same ds o e = rw e
 

@@ -31,7 +31,7 @@ pub record Agree (m : ℕ) (w w′ c : List ℕ) (x y : Outcome) : Type 0 where
   pub output : refusalOf x ≡ 0 → (out out′ : List ℕ) → outputOf y out′ ≡ addWords (outputOf x out) c
 
 -- by the word's own sum with c
-agree : (m r : ℕ) (w c : List ℕ) (x y : Outcome) → IsWord m w → IsWord m c → Sound m r x → y ≡ shift c x → Agree m w (addWords w c) c x y
+pub agree : (m r : ℕ) (w c : List ℕ) (x y : Outcome) → IsWord m w → IsWord m c → Sound m r x → y ≡ shift c x → Agree m w (addWords w c) c x y
 agree m r w c (accepted d k l) y hw hc h e = record {
   answer = ap (answerOf m (addWords w c)) e ∙ ap (values 0 k l) (distance-add hw (h .word) hc);
   output = λ z out out′. ap (λ (o : Outcome). outputOf o out′) e;

@@ -1,20 +1,21 @@
 -- The reading at order 1: what it gives is a codeword, and adding an affine word moves it along. Assumes nothing.
-use Prim.Native.Nat.{ℕ, _^_, _≤_, _<_}
+use Prim.Native.Nat.{ℕ, _+_, _%_, _^_, _≤_, _<_}
 use mathlib.Core.Path.{_≡_, sym, ap, _∙_}
 use mathlib.Core.Logic.{⊎-elim}
 use mathlib.Core.List.{List}
 use native.Mathlib.Decide.{ℕ-discrete}
 use native.Mathlib.Omega.{arith}
-use lib.Bits.{bitXor, xor-lt}
+use lib.Bits.{bitAnd, bitXor, xor-lt}
+use lib.Count.{ones}
 use lib.IntN.{ℤ, natAbs}
 use lib.Pow.{pow-mono, pow-pos}
 use borrow.Author.Tests.{eq-eqb, ne-eqb}
-use Rattle.words.specs.Word.{IsWord, addWords}
+use Rattle.words.specs.Word.{IsWord, addWords, bit}
 use Rattle.words.specs.Xor.{xor-twice}
 use Rattle.code.specs.Code.{IsCodeword}
 use Rattle.hadamard.specs.Correlation.{affine, constantOf, correlation, signed, values}
-use Rattle.hadamard.specs.AffineWords.{affine-add, affine-codeword, affine-parity, codeword-affine}
-use Rattle.hadamard.specs.CorrelationLaws.{constantOf-signed, correlation-add, natAbs-signed}
+use Rattle.hadamard.specs.AffineWords.{affine-add, affine-codeword, affine-parity, bit-affine, codeword-affine}
+use Rattle.hadamard.specs.CorrelationLaws.{constantOf-signed, correlation-affine, correlation-ext, natAbs-signed, values-add}
 use Rattle.hadamard.specs.Peak.{Alone, Shared, alone-count, alone-first, alone-moved, peak, shared-count, shared-moved}
 use Rattle.rule.specs.Reading.{accepted, refused, order1}
 use Rattle.rule.specs.Outcomes.{shift, CodewordIn}
@@ -50,15 +51,14 @@ alone-pos {m} {u} {f} h a = elim (ℕ-discrete 0 u) [
   | no k ↦ omega (arith, a .others 0 (pow-pos m) k)
 ]
 
-module _ (m a t : ℕ) (w : List ℕ) (hm : 1 ≤ m) (ha : a < 2 ^ m) (ht : t < 2) (hw : IsWord m w) where
-  abbrev v : ℕ → ℤ
-  v = values w
-
-  abbrev v′ : ℕ → ℤ
-  v′ = values (addWords w (affine m a t))
+-- values negated where the affine word of mask a and constant t is 1
+module _ (m a t : ℕ) (v v′ : ℕ → ℤ) (hm : 1 ≤ m) (ha : a < 2 ^ m) (ht : t < 2)
+    (turned : (p : ℕ) → p < 2 ^ m → v′ p ≡ signed ((t + ones (bitAnd a p)) % 2) (v p)) where
+  moved : (u : ℕ) → correlation m v′ u ≡ signed t (correlation m v (bitXor u a))
+  moved u = correlation-ext m v′ _ turned u ∙ correlation-affine m a t v ht u
 
   same : (u : ℕ) → u < 2 ^ m → sizes m v′ u ≡ sizes m v (bitXor u a)
-  same u l = ap natAbs (correlation-add hw a t ht u) ∙ natAbs-signed t (correlation m v (bitXor u a))
+  same u l = ap natAbs (moved u) ∙ natAbs-signed t (correlation m v (bitXor u a))
 
   within : (u : ℕ) → u < 2 ^ m → bitXor u a < 2 ^ m
   within u l = xor-lt m u a l ha
@@ -68,7 +68,7 @@ module _ (m a t : ℕ) (w : List ℕ) (hm : 1 ≤ m) (ha : a < 2 ^ m) (ht : t < 
 
   candidate-moved : {u : ℕ} → Alone (2 ^ m) (sizes m v) u → candidate m v′ (bitXor u a) ≡ addWords (candidate m v u) (affine m a t)
   candidate-moved {u} h =
-      ap (λ (z : ℤ). affine m (bitXor u a) (constantOf z)) (correlation-add hw a t ht (bitXor u a) ∙ ap (λ (x : ℕ). signed t (correlation m v x)) (xor-twice u a))
+      ap (λ (z : ℤ). affine m (bitXor u a) (constantOf z)) (moved (bitXor u a) ∙ ap (λ (x : ℕ). signed t (correlation m v x)) (xor-twice u a))
       ∙ affine-parity m (bitXor u a) _ _ (constantOf-signed t (correlation m v u) ht (alone-pos hm h))
       ∙ sym (affine-add m u (constantOf (correlation m v u)) a t)
 
@@ -82,7 +82,14 @@ module _ (m a t : ℕ) (w : List ℕ) (hm : 1 ≤ m) (ha : a < 2 ^ m) (ht : t < 
       ∙ ap (shift (affine m a t)) (sym (order1-shared m v h)))
       (peak (2 ^ m) (sizes m v) (pow-pos m))
 
-pub order1-add : (m : ℕ) (w c : List ℕ) → 1 ≤ m → IsWord m w → IsCodeword m 1 c → order1 m (values (addWords w c)) ≡ shift c (order1 m (values w))
-order1-add m w c hm hw hc =
+-- values negated where a codeword is 1
+pub order1-signed : (m : ℕ) (v v′ : ℕ → ℤ) (c : List ℕ) → 1 ≤ m → IsCodeword m 1 c → ((p : ℕ) → p < 2 ^ m → v′ p ≡ signed (bit c p) (v p))
+    → order1 m v′ ≡ shift c (order1 m v)
+order1-signed m v v′ c hm hc h =
     let L = codeword-affine m c hc in
-    rw (L .same) (order1-moved m (L .mask) (L .start) w hm (L .mask-lt) (L .start-lt) hw)
+    rw (L .same)
+    (order1-moved m (L .mask) (L .start) v v′ hm (L .mask-lt) (L .start-lt)
+    (λ p l. h p l ∙ ap (λ (x : ℕ). signed x (v p)) (ap (λ (d : List ℕ). bit d p) (L .same) ∙ bit-affine m (L .mask) (L .start) p l)))
+
+pub order1-add : (m : ℕ) (w c : List ℕ) → 1 ≤ m → IsWord m w → IsCodeword m 1 c → order1 m (values (addWords w c)) ≡ shift c (order1 m (values w))
+order1-add m w c hm hw hc = order1-signed m (values w) (values (addWords w c)) c hm hc (λ p l. values-add hw (hc .word) p)

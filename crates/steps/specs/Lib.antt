@@ -1,2 +1,3 @@
--- What the functions ask and promise: Steps.
+-- What the functions ask and promise: Steps. Laws: Answers.
 pub mod Steps
+pub mod Answers

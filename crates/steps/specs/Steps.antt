@@ -1,9 +1,9 @@
--- What a direction's votes ask and promise. Assumes nothing.
+-- What a direction's answer and its votes ask and promise. Assumes nothing.
 use Prim.Native.Nat.{ℕ, suc, _^_, _<_}
 use mathlib.Core.Path.{_≡_}
 use mathlib.Core.Bool.{true, cond}
 use mathlib.Core.List.{List}
-use lib.Dec.{eqb}
+use lib.Dec.{eqb, ltb}
 use lib.IntN.{ℤ}
 use Rattle.cosets.specs.Votes.{InProjection, castVote}
 use Rattle.told.specs.Told.{Numbers, numbers}
@@ -16,6 +16,10 @@ use Rattle.steps.specs.declared.Count.the-variants.{Done, Exhausted}
 -- the count that an answer brings: its leaves, and 1 where the direction abstains; none where its leaves ran out
 abbrev pub countIn : Numbers → Count
 countIn (numbers e k l) = cond (eqb e 12) Exhausted (Done l (cond (eqb e 0) 0 1))
+
+-- the leaf count l where `left` are left, a directions abstaining
+abbrev pub countOf : ℕ → ℕ → ℕ → Count
+countOf left l a = cond (ltb left l) Exhausted (Done l a)
 
 -- direction b's vote on place p after its reading's answer
 abbrev pub voteOf : ℕ → ℕ → List ℤ → Verdict → ℕ → ℕ

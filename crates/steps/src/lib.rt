@@ -18,7 +18,7 @@ pub enum Count {
 }
 
 // The count of a direction that abstains, unless its leaves ran out.
-fn abstain(why: Noise, leaves: usize) -> Count
+pub fn abstain(why: Noise, leaves: usize) -> Count
     ensures { λ r. ⌜ ((k : ℕ) → r ≡ countIn (numbersIn (Verdict.Refused why k leaves))) ⌝ }
 {
     if let Noise::TooManyLeaves = why {

@@ -11,7 +11,7 @@ use borrow.Author.Tests.{le-leb}
 use Rattle.words.specs.Word.{addWords}
 use Rattle.code.specs.Code.{IsCodeword}
 use Rattle.refusals.specs.CheckLaws.{no-more, other-place, passes, fails, then}
-use Rattle.refusals.specs.Refusals.{Check, codeChecks, firstRefusal}
+use Rattle.refusals.specs.Refusals.{codeChecks, firstRefusal}
 use Rattle.refusals.specs.declared.Decoded.{Decoded}
 use Rattle.refusals.specs.declared.Decoded.the-variants.{Refused}
 use Rattle.refusals.specs.declared.Refusal.the-variants as refusal
@@ -21,9 +21,9 @@ use Rattle.tables.specs.declared.Slot.{Slot}
 use Rattle.tables.specs.Tables.{entryOf, known, none, ours, slotOf, some}
 use Rattle.tables.specs.Limits.{InLimits, is-known, ours-known, ours-entry}
 use Rattle.tables.specs.Slots.{slot-known}
-use Rattle.rule.specs.Reading.{Outcome, refused}
+use Rattle.rule.specs.Reading.{refused}
 use Rattle.rule.specs.Decoding.{after, bufferChecks, decodeCall, decodeProfileCall, limitChecks}
-use Rattle.rule.specs.DecodingLaws.{RightSizes}
+use Rattle.rule.specs.DecodingLaws.{RightSizes, after-same}
 use Rattle.rule.specs.Calls.{Decodes}
 use Rattle.rule.specs.Demand3.{Agree, demand-3-call}
 use Rattle.table_decoder.specs.Table.{tableChecks, decodeTableCall}
@@ -39,11 +39,6 @@ entry-passes {p} l =
     (passes 4 (leb 1 (p .leaves)) _ (le-leb 1 (p .leaves) (l .leaf))
     (passes 4 (leb (p .leaves) 1000000) _ (le-leb (p .leaves) 1000000 (l .leaves)) no-more))))))
 
--- an answer depends on its checks' number alone
-same-answer : (cs ds : List Check) (o : Outcome) → firstRefusal cs ≡ firstRefusal ds → after cs o ≡ after ds o
-unfolding after
-same-answer cs ds o e = rw e
-
 module _ (t : Table) (number : ℕ) where
   abbrev p : Profile
   p = entryOf t number
@@ -53,7 +48,7 @@ module _ (t : Table) (number : ℕ) where
     pub known-call : known t number ≡ true → decodeTableCall t number word room area ≡ decodeCall (p .m) (p .r) (p .rounds) (p .leaves) word room area
     unfolding decodeTableCall decodeCall
     known-call e =
-        same-answer (tableChecks t number ++ bufferChecks (p .m) word room area)
+        after-same (tableChecks t number ++ bufferChecks (p .m) word room area)
         (codeChecks (p .m) (p .r) ++ limitChecks (p .rounds) (p .leaves) ++ bufferChecks (p .m) word room area) _
         (sym (passes 14 (known t number) (bufferChecks (p .m) word room area) e refl)
         ∙ then (codeChecks (p .m) (p .r) ++ limitChecks (p .rounds) (p .leaves)) (bufferChecks (p .m) word room area) tt (entry-passes (is-known t number e .limits)) refl)
@@ -87,7 +82,7 @@ one-of : (b : Bool) (p : Profile) → cond b (some p) none .known ≡ b
 one-of true p = refl
 one-of false p = refl
 
-slot-says : (t : Table) (number : ℕ) → slotOf t number .known ≡ known t number
+pub slot-says : (t : Table) (number : ℕ) → slotOf t number .known ≡ known t number
 unfolding slotOf
 slot-says t number = one-of (known t number) (entryOf t number)
 

@@ -50,6 +50,16 @@ module _ {n : ℕ} {f : ℕ → Bool} where
   pub first-where : {p : ℕ} → First n f p → p ≡ firstWhere n f
   first-where h = first-unique h (where-first n f)
 
+-- two tests that agree have one first place
+pub where-ext : (n : ℕ) (f g : ℕ → Bool) → ((q : ℕ) → q < n → f q ≡ g q) → firstWhere n f ≡ firstWhere n g
+where-ext n f g h =
+    let first = where-first n f in
+    first-where (record {
+      within = first .within;
+      before = λ q l. sym (h q (omega (arith, first .within))) ∙ first .before q l;
+      found = λ l. sym (h (firstWhere n f) l) ∙ first .found l;
+    })
+
 -- ---- the lowest byte above 1
 
 module _ (s : List ℕ) where

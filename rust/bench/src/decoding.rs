@@ -13,12 +13,12 @@ struct Decoding<F, A> {
     read: fn(A) -> (u64, u64, u64),
 }
 
-impl<A: Copy, F: FnMut(&[u8], &mut [u8]) -> A> Runner for Decoding<F, A> {
+impl<T, A: Copy, F: FnMut(&[T], &mut [u8]) -> A> Runner<T> for Decoding<F, A> {
     fn name(&self) -> &'static str {
         self.name
     }
 
-    fn run(&mut self, block: &[u8]) {
+    fn run(&mut self, block: &[T]) {
         self.answer = (self.decode)(block, &mut self.out);
     }
 
@@ -29,20 +29,20 @@ impl<A: Copy, F: FnMut(&[u8], &mut [u8]) -> A> Runner for Decoding<F, A> {
     }
 }
 
-fn library<'a>(
+pub fn library<'a, T: 'a>(
     name: &'static str,
     m: usize,
-    decode: impl FnMut(&[u8], &mut [u8]) -> calls::Answer + 'a,
-) -> Box<dyn Runner + 'a> {
+    decode: impl FnMut(&[T], &mut [u8]) -> calls::Answer + 'a,
+) -> Box<dyn Runner<T> + 'a> {
     let read = |a: calls::Answer| (a.refusal as u64, a.rounds as u64, a.leaves as u64);
     Box::new(Decoding { name, decode, out: vec![0; 1 << m], answer: calls::Answer::default(), read })
 }
 
-fn opponent<'a>(
+pub fn opponent<'a, T: 'a>(
     name: &'static str,
     m: usize,
-    decode: impl FnMut(&[u8], &mut [u8]) -> opponent::Answer + 'a,
-) -> Box<dyn Runner + 'a> {
+    decode: impl FnMut(&[T], &mut [u8]) -> opponent::Answer + 'a,
+) -> Box<dyn Runner<T> + 'a> {
     let read = |a: opponent::Answer| (a.refusal as u64, a.rounds as u64, a.leaves as u64);
     Box::new(Decoding { name, decode, out: vec![0; 1 << m], answer: opponent::Answer::default(), read })
 }

@@ -1,8 +1,9 @@
 //! Races of the library against the decoders written for speed, all in one run. The first argument says which:
-//! decode, codes, gap, arrays, load, gateway, listing or all; or instructions, which counts them and takes no time.
+//! decode, codes, gap, arrays, load, confidences, gateway, listing or all; or instructions, which counts them and takes no time.
 
 mod arrays;
 mod codes;
+mod confidences;
 mod decoding;
 mod gaps;
 mod instructions;
@@ -20,6 +21,7 @@ fn main() -> ExitCode {
         "gap" => gaps::races(),
         "arrays" => arrays::races(),
         "load" => loads::races(),
+        "confidences" => confidences::races(),
         "gateway" => decoding::gateway_races(),
         "listing" => listings::races(),
         "all" => decoding::races()
@@ -27,12 +29,13 @@ fn main() -> ExitCode {
             .and_then(|()| gaps::races())
             .and_then(|()| arrays::races())
             .and_then(|()| loads::races())
+            .and_then(|()| confidences::races())
             .and_then(|()| decoding::gateway_races())
             .and_then(|()| listings::races()),
         "instructions" => instructions::counts(),
         instructions::PASSES => instructions::passes(std::env::args().skip(2)),
         _ => Err(format!(
-            "no races are named {which}: decode, codes, gap, arrays, load, gateway, listing, all or instructions"
+            "no races are named {which}: decode, codes, gap, arrays, load, confidences, gateway, listing, all or instructions"
         )),
     };
     match raced {

@@ -13,16 +13,16 @@ const ENOUGH: Duration = Duration::from_secs(2);
 /// What a call gave, to be compared: refusal, rounds, leaf count, output.
 pub type Given = (u64, u64, u64, Vec<u8>);
 
-/// A runner calls its decoder on one block.
-pub trait Runner {
+/// A runner calls its decoder on one block, of bits or of confidences.
+pub trait Runner<T = u8> {
     fn name(&self) -> &'static str;
-    fn run(&mut self, block: &[u8]);
+    fn run(&mut self, block: &[T]);
     fn given(&self) -> Given;
 }
 
-pub type Runners<'a> = [Box<dyn Runner + 'a>];
+pub type Runners<'a, T> = [Box<dyn Runner<T> + 'a>];
 
-fn time(runner: &mut dyn Runner, blocks: &[Vec<u8>], times: usize) -> Duration {
+fn time<T>(runner: &mut dyn Runner<T>, blocks: &[Vec<T>], times: usize) -> Duration {
     let start = Instant::now();
     for _ in 0..times {
         for block in blocks {
@@ -33,7 +33,7 @@ fn time(runner: &mut dyn Runner, blocks: &[Vec<u8>], times: usize) -> Duration {
 }
 
 /// Whether all give the same on every block.
-fn equal(runners: &mut Runners, blocks: &[Vec<u8>]) -> bool {
+fn equal<T>(runners: &mut Runners<T>, blocks: &[Vec<T>]) -> bool {
     blocks.iter().all(|block| {
         runners.iter_mut().for_each(|runner| runner.run(block));
         runners.iter().all(|runner| runner.given() == runners[0].given())
@@ -41,7 +41,7 @@ fn equal(runners: &mut Runners, blocks: &[Vec<u8>]) -> bool {
 }
 
 /// The least time of a block for each runner, in microseconds.
-fn least_times(runners: &mut Runners, blocks: &[Vec<u8>]) -> Vec<f64> {
+fn least_times<T>(runners: &mut Runners<T>, blocks: &[Vec<T>]) -> Vec<f64> {
     let once = runners.iter_mut().map(|runner| time(runner.as_mut(), blocks, 1)).max().unwrap_or(TRY);
     let times = (TRY.as_nanos() / once.as_nanos().max(1)) as usize + 1;
     let mut least = vec![Duration::MAX; runners.len()];
@@ -58,7 +58,7 @@ fn least_times(runners: &mut Runners, blocks: &[Vec<u8>]) -> Vec<f64> {
 }
 
 /// Prints the time of a block for each runner, and the ratio of the first, the library, to each other one.
-pub fn race(name: &str, mut runners: Vec<Box<dyn Runner + '_>>, blocks: &[Vec<u8>]) -> Result<(), String> {
+pub fn race<T>(name: &str, mut runners: Vec<Box<dyn Runner<T> + '_>>, blocks: &[Vec<T>]) -> Result<(), String> {
     if !equal(&mut runners, blocks) {
         return Err(format!("{name}: the answers differ"));
     }
@@ -67,7 +67,7 @@ pub fn race(name: &str, mut runners: Vec<Box<dyn Runner + '_>>, blocks: &[Vec<u8
 }
 
 /// The same for calls that answer different questions.
-pub fn side_by_side(name: &str, mut runners: Vec<Box<dyn Runner + '_>>, blocks: &[Vec<u8>]) {
+pub fn side_by_side<T>(name: &str, mut runners: Vec<Box<dyn Runner<T> + '_>>, blocks: &[Vec<T>]) {
     let times = least_times(&mut runners, blocks);
     print!("{name:40} {} {:9.3} us", runners[0].name(), times[0]);
     for (runner, time) in runners.iter().zip(&times).skip(1) {

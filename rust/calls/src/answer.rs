@@ -1,6 +1,7 @@
 //! An answer and its 64 bits.
 
-/// Lowest first: refusal or 0 in 8 bits, rounds in 8, leaf count in 24, mended places in 12, the place of 8 or the entry of 20 in 12.
+/// Lowest first: refusal or 0 in 8 bits, rounds in 8, leaf count in 24, mended places in 12, the place of 8, 17 or 18 or the entry of 20 in
+/// 12.
 #[derive(Clone, Copy, PartialEq, Eq, Debug, Default)]
 pub struct Answer {
     pub refusal: u8,

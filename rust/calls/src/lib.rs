@@ -87,6 +87,27 @@ extern "C" {
         tally_len: usize,
     ) -> u64;
     fn rm_load_block(profile: usize, state: u32, wrong: usize, word: *mut u8, word_len: usize) -> u64;
+    fn rm_decode_confidences(
+        m: usize,
+        r: usize,
+        rounds: usize,
+        leaves: usize,
+        values: *const i16,
+        values_len: usize,
+        out: *mut u8,
+        out_len: usize,
+        area: *mut i32,
+        area_len: usize,
+    ) -> u64;
+    fn rm_decode_confidences_profile(
+        profile: usize,
+        values: *const i16,
+        values_len: usize,
+        out: *mut u8,
+        out_len: usize,
+        area: *mut i32,
+        area_len: usize,
+    ) -> u64;
     fn rm_street(
         meters: usize,
         retries: usize,
@@ -246,5 +267,36 @@ pub fn decode_array(
     // SAFETY: as for `encode`.
     ArrayAnswer::unpacked(unsafe {
         rm_decode_array(row_m, row_r, column_m, column_r, rounds, leaves, word, word_len, out, out_len, area, area_len)
+    })
+}
+
+/// The decoder of confidences.
+#[inline]
+pub fn decode_confidences(
+    m: usize,
+    r: usize,
+    rounds: usize,
+    leaves: usize,
+    values: &[i16],
+    out: &mut [u8],
+    area: &mut [i32],
+) -> Answer {
+    let (values, values_len) = (values.as_ptr(), values.len());
+    let (out, out_len) = (out.as_mut_ptr(), out.len());
+    let (area, area_len) = (area.as_mut_ptr(), area.len());
+    // SAFETY: as for `encode`.
+    Answer::unpacked(unsafe {
+        rm_decode_confidences(m, r, rounds, leaves, values, values_len, out, out_len, area, area_len)
+    })
+}
+
+#[inline]
+pub fn decode_confidences_profile(profile: usize, values: &[i16], out: &mut [u8], area: &mut [i32]) -> Answer {
+    let (values, values_len) = (values.as_ptr(), values.len());
+    let (out, out_len) = (out.as_mut_ptr(), out.len());
+    let (area, area_len) = (area.as_mut_ptr(), area.len());
+    // SAFETY: as for `encode`.
+    Answer::unpacked(unsafe {
+        rm_decode_confidences_profile(profile, values, values_len, out, out_len, area, area_len)
     })
 }

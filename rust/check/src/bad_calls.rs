@@ -111,6 +111,46 @@ impl Chooser {
         Call::DecodeArray { sides: Sides { row, column, rounds, leaves }, word, out, area }
     }
 
+    /// Confidences of that length; bad ones have a few outside the range.
+    fn values(&mut self, length: usize) -> Vec<i16> {
+        let mut values: Vec<i16> = (0..length).map(|_| self.random.below(41) as i16 - 20).collect();
+        if length > 0 && self.random.once_in(self.rarity) {
+            for _ in 0..1 + self.random.below(3) {
+                let place = self.random.below(length);
+                values[place] = self.random.one_of(&[2_048, -2_048, 4_095, 32_767, -32_767, -32_768]);
+            }
+        }
+        values
+    }
+
+    fn values_of(&mut self, right: usize) -> Vec<i16> {
+        let length = self.length(right);
+        self.values(length)
+    }
+
+    pub fn soft_call(&mut self) -> Call {
+        let (m, r, n, _) = self.code();
+        let (rounds, leaves) = (self.rounds(), self.leaves());
+        // all rounds are made at every depth: the counts of greater orders are not read to their end
+        let leaves = if r > 2 { leaves.min(1_000_001) % 999_000 } else { leaves };
+        let (values, out, area) = (self.values_of(n), self.length(n), self.area(n));
+        Call::DecodeConfidences { m, r, rounds, leaves, values, out, area }
+    }
+
+    pub fn soft_profile_call(&mut self) -> Call {
+        let good = self.random.below(5);
+        let profile = self.number(good, &[5, 6, 8, 255, 256, 260, 1 << 32, usize::MAX]);
+        let n = 1 << profiles::profile(profile).map_or(5, |p| p.m);
+        loop {
+            let (values, out, area) = (self.values_of(n), self.length(n), self.area(n));
+            let read =
+                values.len() == n && out == n && area >= 8 * n && values.iter().all(|v| (-2_047..=2_047).contains(v));
+            if profile != 4 || !read {
+                return Call::DecodeConfidencesProfile { profile, values, out, area };
+            }
+        }
+    }
+
     fn profile_call(&mut self) -> Call {
         let good = self.random.below(5);
         let profile = self.number(good, &[5, 6, 8, 255, 256, 260, 1 << 32, usize::MAX]);

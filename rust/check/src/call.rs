@@ -1,6 +1,6 @@
 //! A call with its arguments, and what it leaves behind.
 
-use crate::decoder::{Answer, Beyond, Decoder};
+use crate::decoder::{Answer, Beyond, Confidences, Decoder};
 use crate::lent;
 use second::array::Sides;
 use second::profiles::Profile;
@@ -21,6 +21,8 @@ pub enum Call {
     Record { file: Vec<u8>, rest: Vec<u8>, word: usize },
     LoadBlock { profile: usize, state: u32, wrong: usize, word: usize },
     DecodeArray { sides: Sides, word: Vec<u8>, out: usize, area: usize },
+    DecodeConfidences { m: usize, r: usize, rounds: usize, leaves: usize, values: Vec<i16>, out: usize, area: usize },
+    DecodeConfidencesProfile { profile: usize, values: Vec<i16>, out: usize, area: usize },
     Street { plan: Plan, steps: usize, log: usize, word: usize, area: usize },
 }
 
@@ -62,6 +64,16 @@ impl Call {
         Call::DecodeArray { sides, word: word.to_vec(), out: word.len(), area: 8 << longer }
     }
 
+    /// On confidences, with buffers of the right sizes.
+    pub fn decode_confidences(m: usize, r: usize, rounds: usize, leaves: usize, values: &[i16]) -> Call {
+        Call::DecodeConfidences { m, r, rounds, leaves, values: values.to_vec(), out: 1 << m, area: 8 << m }
+    }
+
+    pub fn decode_confidences_profile(profile: usize, values: &[i16]) -> Call {
+        let n = values.len();
+        Call::DecodeConfidencesProfile { profile, values: values.to_vec(), out: n, area: 8 * n }
+    }
+
     pub fn input(&self) -> &[u8] {
         match self {
             Call::Encode { message, .. } => message,
@@ -70,6 +82,15 @@ impl Call {
             Call::DecodeTable { word, .. } | Call::DecodeMade { word, .. } | Call::DecodeArray { word, .. } => word,
             Call::Record { rest, .. } => rest,
             Call::LoadBlock { .. } | Call::Street { .. } => &[],
+            Call::DecodeConfidences { .. } | Call::DecodeConfidencesProfile { .. } => &[],
+        }
+    }
+
+    /// The confidences of the call, empty where it has none.
+    pub fn values(&self) -> &[i16] {
+        match self {
+            Call::DecodeConfidences { values, .. } | Call::DecodeConfidencesProfile { values, .. } => values,
+            _ => &[],
         }
     }
 
@@ -89,7 +110,8 @@ impl Call {
             Call::Decode { out, area, .. } | Call::DecodeProfile { out, area, .. } => (*out, *area),
             Call::Gap { area, .. } => (0, *area),
             Call::DecodeTable { out, area, .. } | Call::DecodeMade { out, area, .. } => (*out, *area),
-            Call::DecodeArray { out, area, .. } => (*out, *area),
+            Call::DecodeArray { out, area, .. } | Call::DecodeConfidences { out, area, .. } => (*out, *area),
+            Call::DecodeConfidencesProfile { out, area, .. } => (*out, *area),
             Call::Record { word, .. } | Call::LoadBlock { word, .. } => (*word, 0),
             Call::Street { word, area, .. } => (*word, *area),
         }
@@ -109,6 +131,7 @@ impl Call {
             Call::DecodeTable { area, .. } | Call::DecodeMade { area, .. } | Call::DecodeArray { area, .. } => {
                 *area = length
             }
+            Call::DecodeConfidences { area, .. } | Call::DecodeConfidencesProfile { area, .. } => *area = length,
             _ => {}
         }
         self
@@ -118,16 +141,21 @@ impl Call {
     pub fn run(&self, decoder: &mut dyn Decoder) -> Effects {
         let (out_length, area_length) = self.lengths();
         let (mut out, mut area) = (lent::bytes(out_length), lent::numbers(area_length));
-        let (input, file) = (self.input().to_vec(), self.file().to_vec());
+        let (input, file, values) = (self.input().to_vec(), self.file().to_vec(), self.values().to_vec());
         let mut log = lent::counts(self.log());
         let answer = match self {
             Call::Street { plan, steps, .. } => {
                 let beyond = decoder.beyond().expect("a decoder with streets");
                 beyond.street(*plan, *steps, log.inside(), out.inside(), area.inside())
             }
-            _ => self.made(decoder, &input, &file, out.inside(), area.inside()),
+            _ => match decoder.confidences() {
+                Some(confidences) if self.is_on_values() => {
+                    self.made_soft(confidences, &values, out.inside(), area.inside())
+                }
+                _ => self.made(decoder, &input, &file, out.inside(), area.inside()),
+            },
         };
-        let input_kept = input == self.input() && file == self.file();
+        let input_kept = input == self.input() && file == self.file() && values == self.values();
         Effects { answer, out: out.taken_back(), area: area.taken_back(), log: log.taken_back(), input_kept }
     }
 
@@ -140,6 +168,22 @@ impl Call {
             Call::DecodeProfile { profile, .. } => decoder.decode_profile(*profile, input, out, area),
             Call::Gap { m, .. } => decoder.gap(*m, input, area),
             _ => self.made_beyond(decoder.beyond().expect("a decoder with these calls"), input, file, out, area),
+        }
+    }
+
+    fn is_on_values(&self) -> bool {
+        matches!(self, Call::DecodeConfidences { .. } | Call::DecodeConfidencesProfile { .. })
+    }
+
+    fn made_soft(&self, soft: &mut dyn Confidences, values: &[i16], out: &mut [u8], area: &mut [i32]) -> Answer {
+        match self {
+            Call::DecodeConfidences { m, r, rounds, leaves, .. } => {
+                soft.decode_confidences(*m, *r, *rounds, *leaves, values, out, area)
+            }
+            Call::DecodeConfidencesProfile { profile, .. } => {
+                soft.decode_confidences_profile(*profile, values, out, area)
+            }
+            _ => panic!("no call on confidences: {self}"),
         }
     }
 
@@ -189,9 +233,17 @@ impl fmt::Display for Call {
                 write!(f, "load_block of profile {profile} from {state}, {wrong} wrong")?
             }
             Call::DecodeArray { sides, .. } => write!(f, "decode_array {sides:?}")?,
+            Call::DecodeConfidences { m, r, rounds, leaves, .. } => {
+                write!(f, "decode_confidences m {m} r {r} rounds {rounds} leaves {leaves}")?
+            }
+            Call::DecodeConfidencesProfile { profile, .. } => write!(f, "decode_confidences_profile {profile}")?,
             Call::Street { plan, steps, log, .. } => write!(f, "{steps} steps of {plan:?}, log of {log}")?,
         }
         let (out, area) = self.lengths();
+        if self.is_on_values() {
+            let values = self.values();
+            return write!(f, ", input of {}: {values:?}, output of {out}, area of {area}", values.len());
+        }
         let input = self.input();
         write!(f, ", input of {}: {}, output of {out}, area of {area}", input.len(), digits(input))
     }

@@ -54,6 +54,11 @@ impl<'a> Comparison<'a> {
         self.candidate.beyond().is_some()
     }
 
+    /// Whether the candidate has the calls on confidences.
+    pub fn has_confidences(&mut self) -> bool {
+        self.candidate.confidences().is_some()
+    }
+
     /// Makes the call on both; the right effects if they agree. The codeword test is held to the steps too.
     pub fn call(&mut self, call: &Call) -> Result<Effects, Disagreement> {
         let found = call.run(self.candidate);

@@ -4,7 +4,7 @@ use second::array::Sides;
 use second::profiles::Profile;
 use second::street::Plan;
 
-/// Refusal or 0, rounds, leaf count, mended places, and the place that 8 names, or the entry that 20 does.
+/// Refusal or 0, rounds, leaf count, mended places, and the place that 8, 17 or 18 names, or the entry that 20 does.
 #[derive(Clone, Copy, PartialEq, Eq, Debug, Default)]
 pub struct Answer {
     pub refusal: u64,
@@ -49,6 +49,34 @@ pub trait Decoder {
     fn beyond(&mut self) -> Option<&mut dyn Beyond> {
         None
     }
+
+    /// The calls on confidences, where the decoder has them.
+    fn confidences(&mut self) -> Option<&mut dyn Confidences> {
+        None
+    }
+}
+
+/// Document 02, request 2.
+pub trait Confidences {
+    #[allow(clippy::too_many_arguments)]
+    fn decode_confidences(
+        &mut self,
+        m: usize,
+        r: usize,
+        rounds: usize,
+        leaves: usize,
+        values: &[i16],
+        out: &mut [u8],
+        area: &mut [i32],
+    ) -> Answer;
+
+    fn decode_confidences_profile(
+        &mut self,
+        profile: usize,
+        values: &[i16],
+        out: &mut [u8],
+        area: &mut [i32],
+    ) -> Answer;
 }
 
 /// Document 02, requests 4, 9, 10, 11 and 12.

@@ -5,8 +5,10 @@ pub mod arrays;
 mod bad_calls;
 pub mod blocks;
 pub mod call;
+pub mod channel;
 pub mod code_calls;
 pub mod compare;
+pub mod confidences;
 pub mod decoder;
 pub mod decoders;
 pub mod gaps;
@@ -22,4 +24,4 @@ pub mod tallies;
 pub mod values;
 
 pub use compare::{Comparison, Disagreement};
-pub use decoder::{Answer, Beyond, Decoder};
+pub use decoder::{Answer, Beyond, Confidences, Decoder};

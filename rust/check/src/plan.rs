@@ -2,7 +2,8 @@
 
 use crate::compare::{Comparison, Disagreement};
 use crate::{
-    alike, arrays, bad_calls, blocks, code_calls, gaps, guarantee, loads, small, streets, tables, tallies, values,
+    alike, arrays, bad_calls, blocks, code_calls, confidences, gaps, guarantee, loads, small, streets, tables, tallies,
+    values,
 };
 
 /// Few calls that still show every fault.
@@ -23,6 +24,9 @@ pub fn directed(c: &mut Comparison) -> Result<(), Disagreement> {
     blocks::by_profile(c, 92, 1, 10)?;
     if c.goes_beyond() {
         directed_beyond(c)?;
+    }
+    if c.has_confidences() {
+        confidences::directed(c, 89)?;
     }
     Ok(())
 }
@@ -81,6 +85,16 @@ pub const BEYOND: &[Part] = &[
     ("streets step by step", streets::many),
     ("the longest streets", streets::full),
     ("settings of streets at their limits and beyond", streets::limits),
+];
+
+/// The parts for the calls on confidences.
+pub const SOFT: &[Part] = &[
+    ("confidences of profile 4", |c| confidences::slow_profile_blocks(c, 2_704)),
+    ("small blocks of confidences", |c| confidences::small(c, 2_700)),
+    ("confidences of m 4 to 10", |c| confidences::large(c, 2_701)),
+    ("confidences of profiles 0 to 3", |c| confidences::profile_blocks(c, 2_702)),
+    ("bad arguments with confidences", |c| confidences::bad(c, 2_703, 6_000)),
+    ("confidences that differ by a codeword", |c| confidences::pairs(c, 2_705)),
 ];
 
 fn every_small_word(c: &mut Comparison) -> Result<(), Disagreement> {

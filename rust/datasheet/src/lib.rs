@@ -1,8 +1,12 @@
-//! The data sheet: the proved table as a page for people who buy meters, and a picture of what the decoder does beyond the guarantee.
+//! The data sheet: the proved table as a page for people who buy meters, a picture of what the decoder does beyond the guarantee, and one
+//! of bits beside confidences.
 
 pub mod picture;
+mod plot;
 pub mod run;
 pub mod sheet;
+pub mod soft_picture;
+pub mod soft_run;
 pub mod table;
 
 use std::path::PathBuf;

@@ -64,15 +64,12 @@ pub fn point(profile: usize, wrong: usize, blocks: usize) -> Point {
     found
 }
 
-/// The points of all courses, on as many threads as there are processors.
-pub fn points(courses: &[Course]) -> Vec<Point> {
-    let of = |c: &Course| (0..=c.last).step_by(c.step).map(|wrong| (c.profile, wrong, c.blocks)).collect::<Vec<_>>();
-    // the slowest first
-    let todo: Vec<(usize, usize, usize)> = courses.iter().rev().flat_map(of).collect();
+/// What is found of each thing to do, in order, on as many threads as there are processors.
+pub fn in_parallel<T: Sync, P: Ord + Send>(todo: &[T], of: impl Fn(&T) -> P + Sync) -> Vec<P> {
     let (next, found) = (AtomicUsize::new(0), Mutex::new(Vec::new()));
     let work = || {
-        while let Some((profile, wrong, blocks)) = todo.get(next.fetch_add(1, Ordering::Relaxed)) {
-            let point = point(*profile, *wrong, *blocks);
+        while let Some(thing) = todo.get(next.fetch_add(1, Ordering::Relaxed)) {
+            let point = of(thing);
             found.lock().expect("no thread fails").push(point);
         }
     };
@@ -84,6 +81,14 @@ pub fn points(courses: &[Course]) -> Vec<Point> {
     let mut points = found.into_inner().expect("no thread fails");
     points.sort();
     points
+}
+
+/// The points of all courses.
+pub fn points(courses: &[Course]) -> Vec<Point> {
+    let of = |c: &Course| (0..=c.last).step_by(c.step).map(|wrong| (c.profile, wrong, c.blocks)).collect::<Vec<_>>();
+    // the slowest first
+    let todo: Vec<(usize, usize, usize)> = courses.iter().rev().flat_map(of).collect();
+    in_parallel(&todo, |(profile, wrong, blocks)| point(*profile, *wrong, *blocks))
 }
 
 const COLUMNS: &str = "profile,wrong,right,another,refused\n";

@@ -1,6 +1,7 @@
 //! docs/DATASHEET.md, made from the proved tables.
 
 use crate::run::{Course, COURSES};
+use crate::soft_run::{self, Fates};
 use crate::table::{Code, Profile};
 
 pub const PAGE: &str = "docs/DATASHEET.md";
@@ -85,6 +86,44 @@ fn beyond() -> String {
     )
 }
 
-pub fn page(codes: &[Code], profiles: &[Profile]) -> String {
-    [HEAD.to_string(), by_profile(profiles, codes), by_code(codes), beyond()].concat()
+/// The greatest noise measured up to which at least 99 of 100 blocks are accepted right.
+fn read_well(profile: usize, points: &[soft_run::Point], fates: fn(&soft_run::Point) -> Fates) -> u64 {
+    let of_profile = points.iter().filter(|p| p.profile == profile);
+    let well = |p: &&soft_run::Point| 100 * fates(p).right >= 99 * fates(p).blocks();
+    of_profile.take_while(well).last().expect("a noise that is read well").noise as u64
+}
+
+const CONFIDENCES: &str = "
+## Bits or confidences
+![The same noise read from bits and from confidences](confidences.svg)
+
+A receiver that says how sure it is of each place can have a block read from these confidences instead of from bits. Nothing is promised of \
+confidences: the promise above is for bits. What they gain is measured: the same blocks under the same noise, read from the signs as bits and \
+from the confidences, by the two second decoders that the library is compared with, blocks by chance from a fixed seed";
+
+const READ_WELL: &str = "
+Read well is a noise at which at least 99 of 100 blocks are accepted right, and at every smaller one measured too. Beyond it, from confidences \
+few blocks are refused: what is not read right is mostly accepted as another codeword. From bits more blocks are refused. The counts are in \
+confidences.csv; `./datasheet confidences` makes counts and picture anew.
+";
+
+fn bits_or_confidences(points: &[soft_run::Point]) -> String {
+    let blocks = |c: &soft_run::Course| format!("{} of profile {}", grouped(c.blocks as u64), c.profile);
+    let runs: Vec<String> = soft_run::COURSES.iter().map(blocks).collect();
+    let channel = format!(
+        "each place's value is ±{} with noise near to normal, a sum of twelve even draws, and cut to ±2,047",
+        soft_run::AMPLITUDE
+    );
+    let mut text =
+        format!("{CONFIDENCES} ({} at every {} % of noise): {channel}.\n\n", runs.join(", "), soft_run::STEP);
+    text += &heading(&["profile", "read well from bits up to a noise of", "from confidences"]);
+    for course in &soft_run::COURSES {
+        let noise = |fates| format!("{} % of the signal", read_well(course.profile, points, fates));
+        text += &row(&[course.profile.to_string(), noise(|p| p.bits), noise(|p| p.confidences)]);
+    }
+    text + READ_WELL
+}
+
+pub fn page(codes: &[Code], profiles: &[Profile], points: &[soft_run::Point]) -> String {
+    [HEAD.to_string(), by_profile(profiles, codes), by_code(codes), beyond(), bits_or_confidences(points)].concat()
 }

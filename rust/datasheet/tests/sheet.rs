@@ -3,7 +3,7 @@
 use datasheet::run::{Point, COURSES};
 use datasheet::sheet::code_of;
 use datasheet::table::{Code, Profile};
-use datasheet::{picture, read, run, sheet, table};
+use datasheet::{picture, read, run, sheet, soft_picture, soft_run, table};
 
 fn codes() -> Vec<Code> {
     table::codes(&read(table::CODES))
@@ -15,6 +15,10 @@ fn profiles() -> Vec<Profile> {
 
 fn points() -> Vec<Point> {
     run::read(&read(run::COUNTS))
+}
+
+fn soft_points() -> Vec<soft_run::Point> {
+    soft_run::read(&read(soft_run::COUNTS))
 }
 
 /// No row of the proved table is lost on the way.
@@ -40,12 +44,14 @@ fn each_row_is_the_rule() {
 
 #[test]
 fn the_page_is_the_table() {
-    assert!(read(sheet::PAGE) == sheet::page(&codes(), &profiles()), "run ./datasheet page");
+    assert!(read(sheet::PAGE) == sheet::page(&codes(), &profiles(), &soft_points()), "run ./datasheet page");
 }
 
 #[test]
 fn the_picture_is_the_counts() {
     assert!(read(picture::PICTURE) == picture::drawn(&points(), &codes(), &profiles()), "run ./datasheet picture");
+    let drawn = soft_picture::drawn(&soft_points(), &profiles());
+    assert!(read(soft_picture::PICTURE) == drawn, "run ./datasheet picture");
 }
 
 /// Every point is there, and where the promise holds all blocks are accepted right.
@@ -66,4 +72,29 @@ fn the_counts_keep_the_promise() {
 fn the_counts_are_the_library_s() {
     let again = run::points(&COURSES[..2]);
     assert_eq!(again, points().into_iter().filter(|p| p.profile < 2).collect::<Vec<_>>());
+}
+
+/// Every point of bits beside confidences is there, and the page's words on them hold.
+#[test]
+fn confidences_gain() {
+    let points = soft_points();
+    for course in &soft_run::COURSES {
+        let of_course: Vec<&soft_run::Point> = points.iter().filter(|p| p.profile == course.profile).collect();
+        assert!(of_course.iter().map(|p| p.noise).eq(course.noises()));
+        for p in &of_course {
+            assert_eq!((p.bits.blocks(), p.confidences.blocks()), (course.blocks, course.blocks));
+            assert!(p.confidences.right >= p.bits.right && p.confidences.refused <= p.bits.refused, "{p:?}");
+            assert!(p.confidences.another >= p.confidences.refused, "{p:?}");
+        }
+    }
+}
+
+/// A few points run again.
+#[test]
+fn the_counts_of_confidences_are_the_decoders() {
+    let points = soft_points();
+    for (profile, noise) in [(0, 40), (0, 120), (0, 200), (1, 90)] {
+        let point = points.iter().find(|p| (p.profile, p.noise) == (profile, noise)).expect("a point");
+        assert_eq!(soft_run::point(profile, noise, point.bits.blocks()), *point);
+    }
 }

@@ -7,7 +7,7 @@ pub struct Answer {
     pub leaves: usize,
     /// The places where the accepted word differs from the received one.
     pub mended: usize,
-    /// The place that 8 names.
+    /// The place that 8, 17 or 18 names.
     pub place: usize,
 }
 
@@ -69,7 +69,7 @@ pub fn check_limits(rounds: usize, leaves: usize) -> u8 {
 }
 
 /// 1 to 6, or 0.
-pub fn check_decoding(m: usize, r: usize, rounds: usize, leaves: usize, word: &[u8], out: &[u8]) -> u8 {
+pub fn check_decoding<T>(m: usize, r: usize, rounds: usize, leaves: usize, word: &[T], out: &[u8]) -> u8 {
     match check_code(m, r) {
         0 => {}
         refusal => return refusal,

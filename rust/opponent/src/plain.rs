@@ -2,17 +2,21 @@
 
 mod arrays;
 mod codes;
+mod confidences;
 mod cosets;
 mod gap;
 mod leaf;
 mod load;
 mod reading;
+mod soft_cosets;
+mod soft_leaf;
 
 use crate::call::{check_decoding, differing, Answer};
 use crate::profiles::profile;
 pub use arrays::decode_array;
 use codes::bad_byte;
 pub use codes::{encode, is_codeword, read_message};
+pub use confidences::{decode_confidences, decode_confidences_profile, SoftWorkspace};
 pub use gap::gap;
 pub use load::load_block;
 use reading::Reader;

@@ -1,6 +1,6 @@
 //! Answers and limits of a call.
 
-/// Refusal or 0, rounds, leaf count, the places mended, and the place that 8 names.
+/// Refusal or 0, rounds, leaf count, the places mended, and the place that 8, 17 or 18 names.
 #[derive(Clone, Copy, PartialEq, Eq, Debug, Default)]
 pub struct Answer {
     pub refusal: u8,

@@ -20,7 +20,7 @@ pub struct Second {
     pub(crate) fault: Fault,
     /// The codeword test goes by the steps, not by the coefficients.
     by_steps: bool,
-    lists: Lists,
+    pub(crate) lists: Lists,
 }
 
 impl Second {

@@ -2,6 +2,7 @@
 
 use crate::answer::{Answer, Limits};
 use crate::array::Side;
+use crate::soft_reading::GREATEST;
 use crate::{code, Fault};
 
 /// The number of message bits: the sum of the binomials of m over 0 to r.
@@ -50,11 +51,11 @@ pub fn check_limits(limits: Limits) -> Result<(), Answer> {
     check(!(1..=1_000_000).contains(&limits.leaves), 4)
 }
 
-pub fn check_length(bytes: &[u8], length: usize, refusal: u8) -> Result<(), Answer> {
-    check(bytes.len() != length, refusal)
+pub fn check_length<T>(input: &[T], length: usize, refusal: u8) -> Result<(), Answer> {
+    check(input.len() != length, refusal)
 }
 
-pub fn check_slices(input: &[u8], input_length: usize, out: &[u8], out_length: usize) -> Result<(), Answer> {
+pub fn check_slices<T>(input: &[T], input_length: usize, out: &[u8], out_length: usize) -> Result<(), Answer> {
     check_length(input, input_length, 5)?;
     check_length(out, out_length, 6)
 }
@@ -76,4 +77,19 @@ pub fn check_bytes(bytes: &[u8], fault: Fault) -> Result<(), Answer> {
         _ => lowest,
     };
     Err(Answer { place, ..Answer::refused(8) })
+}
+
+/// "18, a confidence outside the range, lowest place named"
+pub fn check_values(values: &[i16], fault: Fault) -> Result<(), Answer> {
+    let outside = |value: i16| match fault {
+        Fault::RangeTo2048 => !(-2_048..=2_048).contains(&value),
+        Fault::LeastNumberAllowed => value.wrapping_abs() > GREATEST,
+        _ => !(-GREATEST..=GREATEST).contains(&value),
+    };
+    let bad: Vec<usize> = (0..values.len()).filter(|place| outside(values[*place])).collect();
+    let Some(&lowest) = bad.first() else {
+        return Ok(());
+    };
+    let place = if fault == Fault::HighestOutside { bad[bad.len() - 1] } else { lowest };
+    Err(Answer { place, ..Answer::refused(18) })
 }

@@ -167,6 +167,60 @@ pub enum Fault {
     ArrayAreaNotCleared,
     /// The area is cleared after 27.
     AreaClearedAfter27,
+    /// A sum of 0 at order 0 gives zeros, on confidences.
+    SumZeroGivesZeros,
+    /// Equal correlations of confidences give the lower mask's codeword.
+    LowerMaskOfValues,
+    /// Inner readings of confidences make one round.
+    OneInnerRound,
+    /// A reading of confidences ends when a round changes nothing.
+    StopsUnchanged,
+    /// 11 is tested before 17.
+    ElevenBefore17,
+    /// The word of the signs is accepted untested.
+    SignsUntested,
+    /// A place's own old value is in its sum.
+    OwnValueAdded,
+    /// Later directions of a round see the sums of the earlier ones.
+    NewValuesSeen,
+    /// If all directions abstained, every value becomes 0.
+    AllAbstainedGivesZeros,
+    /// The projection of two confidences takes the greater magnitude.
+    GreaterMagnitude,
+    /// An inner reading that ends with a value 0 votes by its signs.
+    Inner17Votes,
+    /// A direction without a codeword adds as if it had decoded zeros.
+    AbstainerAddsValues,
+    /// A share is negated where the decoded bit differs from the projected sign.
+    NegatedWhereChanged,
+    /// A sum is cut after each addition.
+    CutWhileAdding,
+    /// A sum is cut to −2,048 at the lower end.
+    CutTo2048,
+    /// A place whose sum is 0 keeps its value.
+    SumZeroKeepsValue,
+    /// 12 is tested after 17.
+    TwelveAfter17,
+    /// 17 names the greatest place whose value is 0.
+    HighestZeroNamed,
+    /// A confidence of 0 counts as bit 1 among the places mended.
+    ZeroMendedAsOne,
+    /// A confidence of 0 is never among the places mended.
+    ZeroNeverMended,
+    /// The range of confidences is −2,048 to 2,048.
+    RangeTo2048,
+    /// A confidence of −32,768 is in the range, as its own negative.
+    LeastNumberAllowed,
+    /// 18 names the greatest place outside the range.
+    HighestOutside,
+    /// 18 is tested before 7.
+    EighteenBefore7,
+    /// The area is cleared after 18.
+    AreaClearedAfter18,
+    /// The area keeps what was in it after 17.
+    AreaKeptAfter17,
+    /// The output is written on 17.
+    OutputOn17,
     /// A meter that was refused sends the same block again.
     SameBlockAgain,
     /// A meter whose block was accepted as another codeword sends again.
@@ -298,6 +352,33 @@ impl Fault {
         Fault::RowsUntested,
         Fault::ArrayAreaNotCleared,
         Fault::AreaClearedAfter27,
+        Fault::SumZeroGivesZeros,
+        Fault::LowerMaskOfValues,
+        Fault::OneInnerRound,
+        Fault::StopsUnchanged,
+        Fault::ElevenBefore17,
+        Fault::SignsUntested,
+        Fault::OwnValueAdded,
+        Fault::NewValuesSeen,
+        Fault::AllAbstainedGivesZeros,
+        Fault::GreaterMagnitude,
+        Fault::Inner17Votes,
+        Fault::AbstainerAddsValues,
+        Fault::NegatedWhereChanged,
+        Fault::CutWhileAdding,
+        Fault::CutTo2048,
+        Fault::SumZeroKeepsValue,
+        Fault::TwelveAfter17,
+        Fault::HighestZeroNamed,
+        Fault::ZeroMendedAsOne,
+        Fault::ZeroNeverMended,
+        Fault::RangeTo2048,
+        Fault::LeastNumberAllowed,
+        Fault::HighestOutside,
+        Fault::EighteenBefore7,
+        Fault::AreaClearedAfter18,
+        Fault::AreaKeptAfter17,
+        Fault::OutputOn17,
         Fault::SameBlockAgain,
         Fault::OtherSentAgain,
         Fault::AllFirstRefusedSend,

@@ -1,6 +1,6 @@
-//! A second encoder, message reader, codeword test, decoder, gap, load of table files, capture reader, named tallies, generator of loads,
-//! street and decoder of arrays, written from the papers alone and for plainness, not speed: everything is found by search and by trying all codewords. The
-//! codeword test stands twice, by the coefficients and by the steps of document 02.
+//! A second encoder, message reader, codeword test, decoder of bits and of confidences, gap, load of table files, capture reader, named
+//! tallies, generator of loads, street and decoder of arrays, written from the papers alone and for plainness, not speed: everything is found
+//! by search and by trying all codewords. The codeword test stands twice, by the coefficients and by the steps of document 02.
 //! It can be made wrong in named ways (`Fault`), to show that a comparison with it notices them.
 
 mod answer;
@@ -8,6 +8,7 @@ pub mod array;
 mod calls;
 mod checks;
 pub mod code;
+mod confidences;
 pub mod direction;
 mod fault;
 pub mod gap;
@@ -15,6 +16,7 @@ mod leaves;
 pub mod load;
 pub mod profiles;
 mod reading;
+pub mod soft_reading;
 pub mod steps;
 pub mod street;
 pub mod table;

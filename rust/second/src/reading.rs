@@ -27,11 +27,12 @@ type Cosets = Rc<Vec<Vec<(usize, usize)>>>;
 pub struct Lists {
     cosets: HashMap<(usize, Numbering), Cosets>,
     first_order: HashMap<usize, Rc<Vec<Vec<u8>>>>,
+    signs: HashMap<usize, Rc<Vec<Vec<i16>>>>,
 }
 
 impl Lists {
     /// The cosets of every direction from 1.
-    fn cosets(&mut self, m: usize, numbering: Numbering) -> Cosets {
+    pub fn cosets(&mut self, m: usize, numbering: Numbering) -> Cosets {
         let make = || Rc::new((1..1 << m).map(|b| direction::cosets(m, b, numbering)).collect());
         self.cosets.entry((m, numbering)).or_insert_with(make).clone()
     }
@@ -41,6 +42,13 @@ impl Lists {
         let bits = |number: usize| (0..=m).map(|i| (number >> i & 1) as u8).collect::<Vec<u8>>();
         let make = || Rc::new((0..2 << m).map(|i| code::codeword(m, 1, &bits(i), Fault::None)).collect());
         self.first_order.entry(m).or_insert_with(make).clone()
+    }
+
+    /// For each mask u the places' signs: −1 where u AND p has an odd number of ones.
+    pub fn signs(&mut self, m: usize) -> Rc<Vec<Vec<i16>>> {
+        let sign = |u: usize, p: usize| 1 - 2 * (code::degree(u & p) % 2) as i16;
+        let make = || Rc::new((0..1 << m).map(|u| (0..1 << m).map(|p| sign(u, p)).collect()).collect());
+        self.signs.entry(m).or_insert_with(make).clone()
     }
 }
 

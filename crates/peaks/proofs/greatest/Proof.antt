@@ -10,7 +10,7 @@ use mir.Val.{ofZ}
 use Rattle.words.specs.Sum.{total, greatestBelow}
 use Rattle.area.specs.Area.{at, sizeAt}
 use Rattle.hadamard.specs.Peak.{greatest-more}
-use Rattle.peaks.proofs.Casts.{size-held, size-below, size-above}
+use Rattle.peaks.specs.Casts.{size-held, size-below, size-above}
 use Rattle.peaks.proofs.greatest.Statement.{statement}
 use Rattle.peaks.proofs.greatest.Tie as tie
 
@@ -46,11 +46,11 @@ loop-again c =
     let whole = s .pre .whole (l .i) (omega arith) in
     ⊎-elim
     (λ w.
-    let test : l .g < natAbs z = size-below (l .g) z (omega arith) small whole (w .0 .taken) in
+    let test : l .g < natAbs z = size-below (l .g) z (omega arith) (omega arith) whole (w .0 .taken) in
     let now : c .if1 .g ≡ natAbs z = w .1 ∙ ap (ofZ w32) whole in
     (omega arith, omega arith, omega (arith, more)))
     (λ w.
-    let test : natAbs z ≤ l .g = size-above (l .g) z (omega arith) small whole (w .0 .left) in
+    let test : natAbs z ≤ l .g = size-above (l .g) z (omega arith) (omega arith) whole (w .0 .left) in
     (omega arith, omega (arith, w .1), omega (arith, w .1, more)))
     (c .if1 .came)
 

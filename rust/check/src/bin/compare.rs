@@ -53,7 +53,8 @@ fn parts(name: &str, next: &AtomicUsize) -> Result<Met, Disagreement> {
     let mut candidate = decoder(name);
     let mut c = Comparison::new(candidate.as_mut());
     let beyond = if c.goes_beyond() { plan::BEYOND } else { &[] };
-    let all: Vec<&plan::Part> = plan::WHOLE.iter().chain(beyond).collect();
+    let soft = if c.has_confidences() { plan::SOFT } else { &[] };
+    let all: Vec<&plan::Part> = plan::WHOLE.iter().chain(beyond).chain(soft).collect();
     while let Some((title, part)) = all.get(next.fetch_add(1, Ordering::Relaxed)) {
         let (start, before) = (Instant::now(), Met::of(&c));
         part(&mut c)?;
@@ -89,12 +90,13 @@ fn by_threads(name: &str) -> Result<Met, Disagreement> {
     })
 }
 
-/// Whether the plan meets this answer, which 16, 19 to 24, 27 and 28 are beyond decoding: those of tables, records, loads, streets and arrays.
-/// 15 is the listing's, and what a script of tallies answers is not counted here.
-fn due(number: usize, beyond: bool) -> bool {
+/// Whether the plan meets this answer, which 16, 19 to 24, 27 and 28 are beyond decoding: those of tables, records, loads, streets and arrays; 17 and 18
+/// are those of confidences. 15 is the listing's, and what a script of tallies answers is not counted here.
+fn due(number: usize, beyond: bool, confidences: bool) -> bool {
     match number {
         0..=14 => true,
         16 | 19..=24 | 27 | 28 => beyond,
+        17 | 18 => confidences,
         _ => false,
     }
 }
@@ -102,8 +104,8 @@ fn due(number: usize, beyond: bool) -> bool {
 fn whole(name: &str) -> Result<(), Disagreement> {
     println!("{name} against the second decoder");
     let met = by_threads(name)?;
-    let beyond = decoder(name).beyond().is_some();
-    let due = |number: &usize| due(*number, beyond);
+    let (beyond, confidences) = (decoder(name).beyond().is_some(), decoder(name).confidences().is_some());
+    let due = |number: &usize| due(*number, beyond, confidences);
     for number in (0..REFUSALS).filter(due) {
         println!("  answer {number:2}: {}", met.answers[number]);
     }

@@ -1,6 +1,6 @@
 //! The second decoder, right or with a fault.
 
-use crate::decoder::{Answer, Beyond, Decoder};
+use crate::decoder::{Answer, Beyond, Confidences, Decoder};
 use second::array::Sides;
 use second::profiles::Profile;
 use second::street::Plan;
@@ -61,6 +61,35 @@ impl Decoder for Faulty {
 
     fn beyond(&mut self) -> Option<&mut dyn Beyond> {
         Some(self)
+    }
+
+    fn confidences(&mut self) -> Option<&mut dyn Confidences> {
+        Some(self)
+    }
+}
+
+impl Confidences for Faulty {
+    fn decode_confidences(
+        &mut self,
+        m: usize,
+        r: usize,
+        rounds: usize,
+        leaves: usize,
+        values: &[i16],
+        out: &mut [u8],
+        area: &mut [i32],
+    ) -> Answer {
+        answer(self.0.decode_confidences(m, r, rounds, leaves, values, out, area))
+    }
+
+    fn decode_confidences_profile(
+        &mut self,
+        profile: usize,
+        values: &[i16],
+        out: &mut [u8],
+        area: &mut [i32],
+    ) -> Answer {
+        answer(self.0.decode_confidences_profile(profile, values, out, area))
     }
 }
 

@@ -1,5 +1,6 @@
 //! The proved library, through its C exports.
 
+use crate::decoder::Confidences;
 use crate::decoder::{Answer, Beyond, Decoder};
 use second::array::Sides;
 use second::profiles::Profile;
@@ -48,6 +49,35 @@ impl Decoder for Library {
 
     fn beyond(&mut self) -> Option<&mut dyn Beyond> {
         Some(self)
+    }
+
+    fn confidences(&mut self) -> Option<&mut dyn Confidences> {
+        Some(self)
+    }
+}
+
+impl Confidences for Library {
+    fn decode_confidences(
+        &mut self,
+        m: usize,
+        r: usize,
+        rounds: usize,
+        leaves: usize,
+        values: &[i16],
+        out: &mut [u8],
+        area: &mut [i32],
+    ) -> Answer {
+        answer(calls::decode_confidences(m, r, rounds, leaves, values, out, area))
+    }
+
+    fn decode_confidences_profile(
+        &mut self,
+        profile: usize,
+        values: &[i16],
+        out: &mut [u8],
+        area: &mut [i32],
+    ) -> Answer {
+        answer(calls::decode_confidences_profile(profile, values, out, area))
     }
 }
 

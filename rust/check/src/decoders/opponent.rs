@@ -1,11 +1,11 @@
 //! The decoders written for speed; they have no area, so check 7 and the clearing are made here.
 
-use crate::decoder::{Answer, Decoder};
+use crate::decoder::{Answer, Confidences, Decoder};
 use opponent::{check_decoding, plain, profile, Workspace};
 
 pub enum Opponent {
     Packed(Workspace),
-    Plain(plain::Workspace),
+    Plain(plain::Workspace, plain::SoftWorkspace),
 }
 
 impl Opponent {
@@ -14,7 +14,7 @@ impl Opponent {
     }
 
     pub fn plain() -> Opponent {
-        Opponent::Plain(plain::Workspace::default())
+        Opponent::Plain(plain::Workspace::default(), plain::SoftWorkspace::default())
     }
 }
 
@@ -27,21 +27,21 @@ impl Decoder for Opponent {
     fn encode(&mut self, m: usize, r: usize, message: &[u8], out: &mut [u8]) -> Answer {
         answer(match self {
             Opponent::Packed(_) => opponent::encode(m, r, message, out),
-            Opponent::Plain(_) => plain::encode(m, r, message, out),
+            Opponent::Plain(..) => plain::encode(m, r, message, out),
         })
     }
 
     fn read_message(&mut self, m: usize, r: usize, word: &[u8], out: &mut [u8]) -> Answer {
         answer(match self {
             Opponent::Packed(_) => opponent::read_message(m, r, word, out),
-            Opponent::Plain(_) => plain::read_message(m, r, word, out),
+            Opponent::Plain(..) => plain::read_message(m, r, word, out),
         })
     }
 
     fn is_codeword(&mut self, m: usize, r: usize, word: &[u8]) -> Answer {
         answer(match self {
             Opponent::Packed(_) => opponent::is_codeword(m, r, word),
-            Opponent::Plain(_) => plain::is_codeword(m, r, word),
+            Opponent::Plain(..) => plain::is_codeword(m, r, word),
         })
     }
 
@@ -60,7 +60,7 @@ impl Decoder for Opponent {
         }
         let answer = answer(match self {
             Opponent::Packed(work) => opponent::decode(m, r, rounds, leaves, word, out, work),
-            Opponent::Plain(work) => plain::decode(m, r, rounds, leaves, word, out, work),
+            Opponent::Plain(work, _) => plain::decode(m, r, rounds, leaves, word, out, work),
         });
         if !(1..=8).contains(&answer.refusal) {
             area.fill(0);
@@ -88,5 +88,48 @@ impl Decoder for Opponent {
             area.fill(0);
         }
         answer
+    }
+
+    /// On packed words there is nothing to gain for values.
+    fn confidences(&mut self) -> Option<&mut dyn Confidences> {
+        match self {
+            Opponent::Packed(_) => None,
+            Opponent::Plain(_, work) => Some(work),
+        }
+    }
+}
+
+impl Confidences for plain::SoftWorkspace {
+    fn decode_confidences(
+        &mut self,
+        m: usize,
+        r: usize,
+        rounds: usize,
+        leaves: usize,
+        values: &[i16],
+        out: &mut [u8],
+        area: &mut [i32],
+    ) -> Answer {
+        if check_decoding(m, r, rounds, leaves, values, out) == 0 && area.len() < 8 << m {
+            return Answer::numbers(7, 0, 0);
+        }
+        let answer = answer(plain::decode_confidences(m, r, rounds, leaves, values, out, self));
+        if !matches!(answer.refusal, 1..=7 | 18) {
+            area.fill(0);
+        }
+        answer
+    }
+
+    fn decode_confidences_profile(
+        &mut self,
+        number: usize,
+        values: &[i16],
+        out: &mut [u8],
+        area: &mut [i32],
+    ) -> Answer {
+        match profile(number) {
+            None => Answer::numbers(14, 0, 0),
+            Some(p) => self.decode_confidences(p.m, p.r, p.rounds, p.leaves, values, out, area),
+        }
     }
 }

@@ -9,7 +9,9 @@ use Rattle.code.specs.Distance.{distance-self}
 use Rattle.rule.specs.Decoding.{values}
 use Rattle.told.specs.declared.Told.{Told}
 use Rattle.told.specs.declared.Verdict.the-variants.{Accepted}
-use Rattle.decoder.specs.Verdicts.{Delivered, Mendable, valuesIn}
+use Rattle.delivery.specs.Delivery.{valuesIn}
+use Rattle.delivery.specs.DeliveryLaws.{none-named}
+use Rattle.decoder.specs.Verdicts.{Delivered, Mendable}
 use Rattle.decoder.proofs.answers.answered.Statement.{statement}
 use Rattle.decoder.proofs.answers.answered.Tie as tie
 
@@ -53,7 +55,7 @@ returns-3 c =
     let s = c .before .before .before .before .before .before in (
       ap (λ (n : ℕ). values n (v .0 .1 .0) (v .0 .1 .1 .0) 0) (c .refusal-of .ensures .0)
           ∙ ap (valuesIn (s .args .m) (s .args .word .now) (s .args .out .now)) (sym (v .1)),
-      c .refusal-of .ensures .1,
+      c .refusal-of .ensures .1 ∙ none-named (v .0 .0),
     )
 
 pub answered-spec : {M : Type 1} → statement M

@@ -19,9 +19,9 @@ pub size-held : (n : ℕ) → n < 2 ^ 31 → toZ w32 n ≡ pos n
 size-held n h = toZ-pos w32 h
 
 -- a test of two sizes
-module _ (a : ℕ) (z : ℤ) (ha : a ≤ 1024) (hz : natAbs z ≤ 1024) (whole : z ≡ pos (natAbs z)) where
+module _ (a : ℕ) (z : ℤ) (ha : a < 2 ^ 31) (hz : natAbs z < 2 ^ 31) (whole : z ≡ pos (natAbs z)) where
   sizes-held : ltZ (toZ w32 a) (stored z) ≡ ltb a (natAbs z)
-  sizes-held = ap₂ ltZ (size-held a (omega arith)) (stored-eq z (omega arith) ∙ whole)
+  sizes-held = ap₂ ltZ (size-held a ha) (stored-eq z hz ∙ whole)
 
   pub size-below : ltZ (toZ w32 a) (stored z) ≡ true → a < natAbs z
   size-below e = ltb-true a (natAbs z) (sym sizes-held ∙ e)

@@ -1,0 +1,2 @@
+-- What the decoder's functions ask and promise: Runs.
+pub mod Runs

@@ -1,0 +1,1 @@
+// The decoder for confidences, as definitions and theorems: specs/.

@@ -1,0 +1,30 @@
+-- `harness::value_calls::rm_decode_confidences` meets its contract. Assumes nothing.
+use Rattle.packing.specs.PackingLaws.{decoding-returns}
+use borrow.Author.Needs.{needs}
+use Rattle.harness.proofs.value_calls.rm_decode_confidences.Statement.{statement}
+use Rattle.harness.proofs.value_calls.rm_decode_confidences.Tie as tie
+
+decode-confidences-requires : tie.Need-decode-confidences-requires
+decode-confidences-requires c κs = search needs
+
+pack-decoded-requires : tie.Need-pack-decoded-requires
+pack-decoded-requires c κs = search needs
+
+same-length : tie.Need-same-length
+same-length c = search needs
+
+same-length-2 : tie.Need-same-length-2
+same-length-2 c = search needs
+
+returns : tie.Need-returns
+returns c = decoding-returns (c .before .before .before .before .decode-confidences .ensures) (c .pack-decoded .ensures)
+
+pub rm-decode-confidences-spec : {M : Type 1} → statement M
+rm-decode-confidences-spec =
+    tie.close
+    (tie.spec
+    decode-confidences-requires
+    pack-decoded-requires
+    same-length
+    same-length-2
+    returns)

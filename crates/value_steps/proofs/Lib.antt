@@ -1,0 +1,10 @@
+-- What the proofs share.
+mod Joints
+mod ValueReads
+mod Turns
+mod ProjectTurns
+mod ShareTurns
+mod FourTurns
+mod FourJoins
+mod FourShares
+mod FourShareTurns

@@ -1,0 +1,3 @@
+-- What the functions ask and promise.
+pub mod Pairs
+pub mod Shares
