@@ -22,7 +22,7 @@ use Rattle.words.specs.Word.{bit}
 use Rattle.area.specs.Area.{at, fourOf}
 use Rattle.area.specs.AreaLaws.{four-as}
 use Rattle.area.specs.Numbers.{stored, stored-eq}
-use Rattle.correlations.specs.Begun.{EightsDone}
+use Rattle.correlations.specs.Begun.{Blockwise}
 use Rattle.hadamard.specs.Correlation.{correlation}
 use Rattle.hadamard.specs.CorrelationLaws.{correlation-ext}
 use Rattle.hadamard.specs.Summable.{Summable}
@@ -155,10 +155,10 @@ module _ (k : ℕ) (w : List ℕ) where
           let n : q - 0 ≡ 2 ^ k = omega arith in
           rw (drop-of-length-le (quadsOf k w) {i = 2 ^ k} (omega (arith, many)), n) (append-nil (take (2 ^ k) area))
 
-      pub eights-done : EightsDone k (quadsOf k w) (take (q - 0) area)
+      pub eights-done : Blockwise 8 k (quadsOf k w) (take (q - 0) area)
       eights-done = record {
         summable = block-summable;
-        eights = transformed-blocks sums entries 3 some (rw (many, ← whole) (d .done));
+        transformed = transformed-blocks sums entries 3 some (rw (many, ← whole) (d .done));
       }
 
       pub correlated :

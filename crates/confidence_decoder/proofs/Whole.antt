@@ -29,7 +29,8 @@ use Rattle.confidences.specs.ValueLaws.{front-is, front-values}
 use Rattle.confidences.specs.Values.{frontOf}
 use Rattle.value_orders.specs.declared.ends.Ended.{Ended}
 use Rattle.value_readings.specs.Answers.{reading-unlimited}
-use Rattle.value_readings.specs.Readings.{ReadsValues, Ready, placeIn}
+use Rattle.value_readings.specs.Readings.{ReadsValues, Ready}
+use Rattle.value_orders.specs.Leaves.{placeIn}
 use Rattle.confidence_decoder.specs.Runs.{Accepts, RunsValues, placeTold}
 
 -- ---- the outcome of a reading

@@ -84,9 +84,9 @@ module _ (x : List ℤ) (h : InRange x) where
   unfolding correlation
   correlation-bound m u = signed-bound (2 ^ m) (λ p. ones (bitAnd u p) % 2)
 
-  -- at most 1,024 × 2,047
-  pub correlation-small : (m u : ℕ) → m ≤ 10 → natAbs (correlation m (at x) u) < 2 ^ 29
-  correlation-small m u hm = omega (arith, correlation-bound m u, pow-mono {i = m} {j = 10} hm)
+  -- at most 512 × 2,047
+  pub correlation-small : (m u : ℕ) → m ≤ 9 → natAbs (correlation m (at x) u) < 2 ^ 20
+  correlation-small m u hm = omega (arith, correlation-bound m u, pow-mono {i = m} {j = 9} hm)
 
 pub after-range : (m : ℕ) (lower : List ℤ → Outcome) (k : ℕ) (x : List ℤ) → InRange x → InRange (valuesAfter m lower k x)
 unfolding valuesAfter

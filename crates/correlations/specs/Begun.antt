@@ -1,4 +1,4 @@
--- A transform of which the blocks of 8 are done: what the levels after them ask. Assumes nothing.
+-- A transform of which the blocks of some size are done: what the levels after them ask. Assumes nothing.
 use Prim.Native.Nat.{ℕ}
 use mathlib.Core.List.{List}
 use lib.IntN.{ℤ}
@@ -6,13 +6,13 @@ use Rattle.words.specs.Levels.{Transformed}
 use Rattle.hadamard.specs.Summable.{Summable}
 use Rattle.hadamard.specs.Transform.{sums}
 
--- each block of 8 of the numbers x is transformed in a
-pub record EightsDone (m : ℕ) (x a : List ℤ) : Type 0 where
+-- each block of h of the numbers x is transformed in a
+pub record Blockwise (h m : ℕ) (x a : List ℤ) : Type 0 where
   pub summable : Summable m x
-  pub eights : Transformed sums m 8 x a
+  pub transformed : Transformed sums m h x a
 
 -- of some numbers
-pub record Begun (a : List ℤ) : Type 0 where
+pub record Begun (h : ℕ) (a : List ℤ) : Type 0 where
   pub exponent : ℕ
   pub from : List ℤ
-  pub done : EightsDone exponent from a
+  pub done : Blockwise h exponent from a

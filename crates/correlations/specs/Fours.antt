@@ -12,10 +12,10 @@ use Rattle.words.specs.Butterflies.{Entries, halved}
 use Rattle.words.specs.ButterflyLaws.{set-four}
 
 -- a sum and a difference, as the code computes them
-abbrev plus : ℤ → ℤ → ℤ
+abbrev pub plus : ℤ → ℤ → ℤ
 plus x y = stored x +ℤ stored y
 
-abbrev minus : ℤ → ℤ → ℤ
+abbrev pub minus : ℤ → ℤ → ℤ
 minus x y = stored x -ℤ stored y
 
 module _ {a : List ℤ} (e : Entries sums 4 2 a) where

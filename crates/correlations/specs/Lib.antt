@@ -1,3 +1,5 @@
--- What the levels ask: Begun. Fours has laws.
+-- What the levels ask: Begun. Two levels at once: Twice, and Columns with laws. Fours has laws.
 pub mod Fours
 pub mod Begun
+pub mod Twice
+pub mod Columns

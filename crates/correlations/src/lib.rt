@@ -10,10 +10,13 @@ ghost use Rattle.area.specs.Area.{at};
 ghost use Rattle.hadamard.specs.Correlation.{correlation};
 ghost use Rattle.hadamard.specs.Summable.{Summable};
 ghost use Rattle.hadamard.specs.Transform.{sums};
-ghost use Rattle.correlations.specs.Begun.{Begun, EightsDone};
+ghost use Rattle.correlations.specs.Begun.{Begun, Blockwise};
 use hadamard::butterfly;
 use hadamard::level;
 use hadamard::two;
+use twice::two_levels;
+
+mod twice;
 
 // The transform of 4 numbers: all are read before any is written, so that the compiler takes them together.
 fn four(a: &mut [i32])
@@ -58,20 +61,43 @@ fn fours(a: &mut [i32])
     }
 }
 
-// The levels after the blocks of 8.
-pub fn levels(a: &mut [i32])
-    requires { ⌜ Begun (now a) ⌝ }
-    ensures { λ _. ⌜ ((m : ℕ) (x : List ℤ) → EightsDone m x (now (a .entry)) → now (a .exit) ≡ tabulate (2 ^ m) (correlation m (at x))) ⌝ }
+// The levels from the blocks of `first` numbers on, one at a time.
+pub fn levels(a: &mut [i32], first: usize)
+    requires { ⌜ Begun first (now a) ⌝ }
+    ensures { λ _. ⌜ ((m : ℕ) (x : List ℤ) → Blockwise first m x (now (a .entry)) → now (a .exit) ≡ tabulate (2 ^ m) (correlation m (at x))) ⌝ }
 {
-    let mut h: usize = 8;
+    let mut h = first;
     while h < a.len() {
         level(a, h);
         h = h + h;
     }
 }
 
-// The correlation of every mask with the values in a, in place: blocks of 4 first, then level by level. The first level is a call of its
-// own with a literal, which the compiler unrolls.
+// The levels from the blocks of 4 on, two at a time. Each call has a literal, which the compiler unrolls.
+fn levels_by_two(a: &mut [i32])
+    requires { ⌜ Begun 4 (now a) ⌝ }
+    ensures { λ _. ⌜ ((m : ℕ) (x : List ℤ) → Blockwise 4 m x (now (a .entry)) → now (a .exit) ≡ tabulate (2 ^ m) (correlation m (at x))) ⌝ }
+{
+    let n = a.len();
+    if n < 16 {
+        levels(a, 4);
+        return;
+    }
+    two_levels(a, 4);
+    if n < 64 {
+        levels(a, 16);
+        return;
+    }
+    two_levels(a, 16);
+    if n < 256 {
+        levels(a, 64);
+        return;
+    }
+    two_levels(a, 64);
+    levels(a, 256);
+}
+
+// The correlation of every mask with the values in a, in place: blocks of 4 first, then two levels at a time.
 pub fn correlate(a: &mut [i32], m: usize)
     requires { ⌜ Summable m (now a) ⌝ }
     ensures { λ _. ⌜ now (a .exit) ≡ tabulate (2 ^ m) (correlation m (at (now (a .entry)))) ⌝ }
@@ -83,10 +109,10 @@ pub fn correlate(a: &mut [i32], m: usize)
         two(a);
         return;
     }
-    fours(a);
-    if m == 2 {
+    if m == 3 {
+        eight(a);
         return;
     }
-    level(a, 4);
-    levels(a);
+    fours(a);
+    levels_by_two(a);
 }

@@ -25,7 +25,7 @@ use Rattle.confidences.specs.Confidences.{cut, ended, lowestZero, signsOf}
 use Rattle.confidences.specs.Rounds.{bit-signs, signs-word, ended-zero, ended-codeword, ended-other}
 use Rattle.confidences.specs.Signs.{cut-size}
 use Rattle.confidences.specs.Values.{frontOf, Sums}
-use Rattle.value_orders.specs.Leaves.{placeNamed}
+use Rattle.value_orders.specs.Leaves.{placeIn}
 
 -- ---- a sum, where p of the new values were written
 
@@ -58,7 +58,7 @@ module _ {p : ℕ} {f : ℕ → Bool} (passed : (q : ℕ) → q < p → f q ≡ 
 
 -- what it tells: its answer, and the place
 abbrev pub Ends : ℕ → ℕ → ℕ → ℕ → List ℤ → List ℤ → Verdict → ℕ → Type 0
-Ends m r k l x ys a p = Read (2 ^ m) (ended m r x k l) ys a × (p ≡ placeNamed m (ended m r x k l) x)
+Ends m r k l x ys a p = Read (2 ^ m) (ended m r x k l) ys a × (p ≡ placeIn (ended m r x k l) (lowestZero m x))
 
 module _ (m r k l : ℕ) (xs : List ℤ) where
   abbrev x : List ℤ

@@ -14,7 +14,7 @@ use Rattle.peaks.specs.Peaks.{joined, pairSize}
 use Rattle.rule.specs.Reading.{Outcome, accepted, refused}
 use Rattle.rule.specs.Decoding.{refusalOf}
 use Rattle.told.specs.Told.{Holds}
-use Rattle.confidences.specs.Confidences.{lowestZero, signsOf}
+use Rattle.confidences.specs.Confidences.{signsOf}
 use Rattle.confidences.specs.Values.{Signs}
 
 -- whether an outcome has a word
@@ -37,18 +37,18 @@ pub record LeafBits (n : ℕ) (o : Outcome) (ys : List ℤ) (b : Bool) : Type 0 
   pub said : b ≡ isAccepted o
   pub word : Holds n o ys
 
--- the place that the outcome o of a reading that ended with the values x names: "17, a place ends with value 0 .., lowest place named"
-abbrev pub placeNamed : ℕ → Outcome → List ℤ → ℕ
-placeNamed m o x = cond (eqb (refusalOf o) 17) (lowestZero m x) 0
+-- the place that an outcome names, p being the lowest of value 0: of a reading's refusals only 17 names one
+abbrev pub placeIn : Outcome → ℕ → ℕ
+placeIn o p = cond (eqb (refusalOf o) 17) p 0
 
 -- ---- pairs: the numbers i and h + i of a list of h + h
 
--- far from the ends of 32 bits
+-- few and small enough that 32 bits hold the size of a pair with its place
 pub record Pairs (h : ℕ) (xs : List ℤ) : Type 0 where
   pub some : 0 < h
   pub few : h ≤ 512
   pub size : length xs ≡ h + h
-  pub small : (i : ℕ) → i < h + h → natAbs (at xs i) < 2 ^ 29
+  pub small : (i : ℕ) → i < h + h → natAbs (at xs i) < 2 ^ 20
 
 -- the size of each
 abbrev pub pairSizes : ℕ → List ℤ → ℕ → ℕ

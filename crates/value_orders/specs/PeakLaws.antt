@@ -136,10 +136,10 @@ module _ {k h i j : ℕ} {xs : List ℤ} (a : Halved k h i j xs) where
         few = omega (arith, a .half, pow-mono {i = k} {j = 9} (a .few));
         size = high-written .long ∙ mid-size;
         small = λ u l. elim (decLt u h) [
-          | yes b ↦ rw (first-at u b) (correlation-small low low-range k u (omega (arith, a .few)))
+          | yes b ↦ rw (first-at u b) (correlation-small low low-range k u (a .few))
           | no b ↦
-              subst (λ (q : ℕ). natAbs (at back q) < 2 ^ 29) (back-to u b)
-              (rw (second-at (u - h) (omega arith)) (correlation-small high high-range k (u - h) (omega (arith, a .few))))
+              subst (λ (q : ℕ). natAbs (at back q) < 2 ^ 20) (back-to u b)
+              (rw (second-at (u - h) (omega arith)) (correlation-small high high-range k (u - h) (a .few)))
         ];
       }
         where

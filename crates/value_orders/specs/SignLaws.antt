@@ -1,32 +1,31 @@
 -- Words by the signs of numbers. Assumes nothing.
 use Prim.Native.Nat.{ℕ, _+_, _%_, _^_, _<_}
 use mathlib.Core.Path.{_≡_, refl, sym, ap, _∙_}
-use mathlib.Core.Bool.{true, false, false≢true}
+use mathlib.Core.Bool.{true, false}
 use mathlib.Core.List.{List}
+use native.Mathlib.Nat.{mod-lt}
 use native.Mathlib.Omega.{arith}
 use lib.Bits.{bitAnd}
 use lib.Count.{ones}
 use lib.Dec.{eqb}
 use lib.IntN.{ℤ, pos, negℤ, natAbs, _-ℤ_}
-use lib.ListN.{length}
 use lib.Signed.{ltZ, mag}
 use mir.Syntax.{w32}
 use mir.Val.{SFits, ofZ}
 use Rattle.words.specs.Sum.{tabulate}
 use Rattle.words.specs.SumLaws.{getD-tabulate}
-use Rattle.words.specs.Written.{Written}
-use Rattle.area.specs.Area.{at, Bits, IsBit, zero-bit, one-bit}
+use Rattle.area.specs.Area.{at, IsBit, zero-bit, one-bit}
 use Rattle.area.specs.AreaLaws.{bit-back, bit-lt, is-bit}
 use Rattle.area.specs.Numbers.{negated-fits, stored}
 use Rattle.hadamard.specs.Correlation.{constantOf, correlation}
-use Rattle.hadamard.specs.AffineWords.{bit-affine, word-affine}
+use Rattle.hadamard.specs.AffineWords.{bit-affine}
 use Rattle.hadamard.specs.CorrelationLaws.{constantOf-negative, constantOf-other}
 use Rattle.peaks.specs.declared.Peak.{Peak}
 use Rattle.peaks.specs.Peaks.{IsPeak}
 use Rattle.peaks.specs.Stored.{as-it-is, zero-read}
-use Rattle.rule.specs.Reading.{Outcome, accepted, order1, refused}
+use Rattle.rule.specs.Reading.{order1}
 use Rattle.order_one.specs.OrderOne.{peak-tie, peak-nearest, peak-bit}
-use Rattle.value_orders.specs.Leaves.{Leaf, LeafBits}
+use Rattle.value_orders.specs.Leaves.{Leaf}
 
 -- ---- a bit, and the number with its sign
 
@@ -44,7 +43,7 @@ pub sign-bit : {z : ℤ} → IsBit z → constantOf (negℤ z) ≡ natAbs z
 sign-bit zero-bit = refl
 sign-bit one-bit = refl
 
-sign-of : (b : ℕ) → b < 2 → constantOf (negℤ (pos b)) ≡ b
+pub sign-of : (b : ℕ) → b < 2 → constantOf (negℤ (pos b)) ≡ b
 sign-of b h = sign-bit (is-bit b h)
 
 -- ---- a number that the code reads, against 0
@@ -59,54 +58,29 @@ module _ (z : ℤ) (fits : mag z < 2 ^ 31) where
   pub zero-test : eqb (ofZ w32 z) 0 ≡ eqb (natAbs z) 0
   zero-test = zero-read {x = z} (record { sfits = fits })
 
--- ---- a word by its bits, turned to signs
-
-module _ {n : ℕ} {ys : List ℤ} (size : length ys ≡ n) where
-  pub leaf-bits : (o : Outcome) → LeafBits n o ys true → Bits (length ys) ys
-  leaf-bits (accepted d k l) f = record {
-    room = omega arith;
-    bits = λ q h. rw (f .word .each q (omega arith)) (is-bit _ (f .word .bits q (omega arith)));
-  }
-  leaf-bits (refused e k l) f = absurd (false≢true (sym (f .said)))
-
-  pub leaf-signs : (o : Outcome) {zs : List ℤ} → LeafBits n o ys true → Written (pos 0) 0 (length ys) (λ q. negℤ (at ys q)) ys zs → Leaf n o zs true
-  leaf-signs (accepted d k l) f w = record {
-    said = refl;
-    word = record {
-      each = λ q h. ap constantOf (w .within q (omega arith) ∙ ap negℤ (f .word .each q h)) ∙ sign-of _ (f .word .bits q h);
-    };
-  }
-  leaf-signs (refused e k l) f w = absurd (false≢true (sym (f .said)))
-
--- a tie leaves no word, by signs or by bits
-pub leaf-none : {n : ℕ} {ys zs : List ℤ} (o : Outcome) → LeafBits n o ys false → Leaf n o zs false
-leaf-none (accepted d k l) f = absurd (false≢true (f .said))
-leaf-none (refused e k l) f = record { said = refl; word = tt }
-
 -- ---- order 1 from the peak p of the values v
 
 module _ (m : ℕ) (v : ℕ → ℤ) {p : Peak} (k : IsPeak (2 ^ m) (correlation m v) p) where
-  pub bits-tie : {ys : List ℤ} → p .alone ≡ false → LeafBits (2 ^ m) (order1 m v) ys false
-  bits-tie e = rw (peak-tie m v k e) (record { said = refl; word = tt })
+  pub leaf-tie : {ys : List ℤ} → p .alone ≡ false → Leaf (2 ^ m) (order1 m v) ys false
+  leaf-tie e = rw (peak-tie m v k e) (record { said = refl; word = tt })
 
   -- its codeword was written as ys
   module _ (e : p .alone ≡ true) {n : ℕ} {ys : List ℤ} (size : n ≡ 2 ^ m)
-      (ey : ys ≡ tabulate n (λ q. pos ((natAbs (stored (p .constant)) + ones (bitAnd (p .mask) q)) % 2))) where
+      (ey : ys ≡ tabulate n (λ q. negℤ (pos ((natAbs (stored (p .constant)) + ones (bitAnd (p .mask) q)) % 2)))) where
     constant-is : natAbs (stored (p .constant)) ≡ constantOf (correlation m v (p .mask))
     constant-is = ap natAbs (bit-back (peak-bit m v k e) ∙ k .constant e)
 
-    each : (q : ℕ) → q < 2 ^ m → at ys q ≡ pos ((constantOf (correlation m v (p .mask)) + ones (bitAnd (p .mask) q)) % 2)
+    each : (q : ℕ) → q < 2 ^ m → at ys q ≡ negℤ (pos ((constantOf (correlation m v (p .mask)) + ones (bitAnd (p .mask) q)) % 2))
     each q l = rw (ey, ← constant-is) (getD-tabulate n _ (pos 0) q (omega arith))
 
-    pub bits-word : LeafBits (2 ^ m) (order1 m v) ys true
-    bits-word =
-        let w = word-affine m (p .mask) (constantOf (correlation m v (p .mask))) in
+    pub leaf-word : Leaf (2 ^ m) (order1 m v) ys true
+    leaf-word =
         rw (peak-nearest m v k e)
         (record {
           said = refl;
           word = record {
-            size = w .size;
-            each = λ q l. each q l ∙ ap pos (sym (bit-affine m (p .mask) _ q l));
-            bits = λ q l. w .bits q;
+            each = λ q l.
+                ap (λ (i : ℕ). constantOf (at ys i)) {x = 0 + q} {y = q} (omega arith) ∙ ap constantOf (each q l)
+                ∙ sign-of _ (mod-lt _ (omega arith)) ∙ sym (bit-affine m (p .mask) _ q l);
           };
         })

@@ -9,10 +9,10 @@ ghost use Rattle.words.specs.Sum.{firstWhere};
 ghost use Rattle.words.specs.Written.{Written};
 ghost use Rattle.area.specs.Area.{at};
 ghost use Rattle.told.specs.Told.{Read};
-ghost use Rattle.confidences.specs.Confidences.{ended};
+ghost use Rattle.confidences.specs.Confidences.{ended, lowestZero};
 ghost use Rattle.confidences.specs.Confidences;
 ghost use Rattle.confidences.specs.Values.{frontOf, Sums};
-ghost use Rattle.value_orders.specs.Leaves.{placeNamed};
+ghost use Rattle.value_orders.specs.Leaves.{placeIn};
 use crate::signs::to_bits;
 use told::Noise;
 use told::Verdict;
@@ -54,7 +54,7 @@ fn lowest_zero(n: usize, area: &[i32]) -> usize
 pub fn finish(m: usize, r: usize, k: usize, used: usize, area: &mut [i32]) -> Ended
     requires { ⌜ (m ≤ 10) × (2 * 2 ^ m ≤ length (now area)) ⌝ }
     ensures read { λ e. ⌜ Read (2 ^ m) (ended m r (frontOf (2 ^ m) (now (area .entry))) k used) (now (area .exit)) (e .answer) ⌝ }
-    ensures place { λ e. ⌜ e .place ≡ placeNamed m (ended m r (frontOf (2 ^ m) (now (area .entry))) k used) (frontOf (2 ^ m) (now (area .entry))) ⌝ }
+    ensures place { λ e. ⌜ e .place ≡ placeIn (ended m r (frontOf (2 ^ m) (now (area .entry))) k used) (lowestZero m (frontOf (2 ^ m) (now (area .entry)))) ⌝ }
 {
     let n = words::size(m);
     let p = lowest_zero(n, area);

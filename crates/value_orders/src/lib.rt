@@ -13,7 +13,7 @@ ghost use Rattle.value_orders.specs.Leaves.{Leaf, LeafBits};
 use clean::is_clean;
 use peaks::Peak;
 use signs::to_bits;
-use signs::to_signs;
+use signs::write_signs;
 use told::Noise;
 use told::Verdict;
 
@@ -34,10 +34,10 @@ fn find_peak(m: usize, part: &mut [i32]) -> Peak
     pairs::search(h, part)
 }
 
-// The reading at order 1 by the peak of the values in the part, which leaves the bits of its word; whether there is one.
+// The reading at order 1 by the peak of the values in the part, which leaves its word by its signs; whether there is one.
 fn read_peak(m: usize, part: &mut [i32]) -> bool
     requires { ⌜ (1 ≤ m) × (m ≤ 10) × (length (now part) ≡ 2 ^ m) × Values (2 ^ m) (now part) ⌝ }
-    ensures { λ b. ⌜ LeafBits (2 ^ m) (order1 m (at (now (part .entry)))) (now (part .exit)) b ⌝ }
+    ensures { λ b. ⌜ Leaf (2 ^ m) (order1 m (at (now (part .entry)))) (now (part .exit)) b ⌝ }
 {
     let peak = find_peak(m, part);
     if !peak.alone {
@@ -45,7 +45,7 @@ fn read_peak(m: usize, part: &mut [i32]) -> bool
     }
     let mask = peak.mask;
     let constant = peak.constant;
-    affine::write_affine(part, mask, constant);
+    write_signs(part, mask, constant);
     true
 }
 
@@ -58,11 +58,7 @@ pub fn read_signs(m: usize, part: &mut [i32]) -> bool
     if is_clean(m, part) {
         return true;
     }
-    if !read_peak(m, part) {
-        return false;
-    }
-    to_signs(part);
-    true
+    read_peak(m, part)
 }
 
 // The same, which leaves the bits of the word.
@@ -70,11 +66,11 @@ fn read_bits(m: usize, part: &mut [i32]) -> bool
     requires { ⌜ (1 ≤ m) × (m ≤ 10) × (length (now part) ≡ 2 ^ m) × Values (2 ^ m) (now part) ⌝ }
     ensures { λ b. ⌜ LeafBits (2 ^ m) (order1 m (at (now (part .entry)))) (now (part .exit)) b ⌝ }
 {
-    if is_clean(m, part) {
-        to_bits(part.len(), part);
-        return true;
+    if !read_signs(m, part) {
+        return false;
     }
-    read_peak(m, part)
+    to_bits(part.len(), part);
+    true
 }
 
 // The sum of the first n values.

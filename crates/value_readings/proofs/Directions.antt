@@ -25,9 +25,9 @@ use Rattle.confidences.specs.Rounds.{leaves-all, leavesTo, leavesTo-more, leave
 use Rattle.confidences.specs.ValueLaws.{front-is, front-values, same-front}
 use Rattle.confidences.specs.Values.{Projects, Sums, frontOf}
 use Rattle.value_orders.specs.declared.ends.Ended.{Ended}
-use Rattle.value_rounds.specs.AnswerLaws.{Answered, answer-asks, answer-more}
-use Rattle.value_rounds.specs.Polls.{Heard, Polled, Renewed, Rounded, newAt, partOf}
-use Rattle.value_rounds.specs.PollLaws.{poll-first, poll-last, poll-projects, poll-range, poll-sums, polled-few, polled-from, polled-then, round-spent, written-front}
+use Rattle.value_readings.specs.AnswerLaws.{Answered, answer-asks, answer-more}
+use Rattle.value_readings.specs.Polls.{Heard, Polled, Renewed, Rounded, newAt, partOf}
+use Rattle.value_readings.specs.PollLaws.{poll-first, poll-last, poll-projects, poll-range, poll-sums, polled-few, polled-from, polled-then, round-spent, written-front}
 use Rattle.value_readings.specs.Answers.{reading-unlimited}
 use Rattle.value_readings.specs.Readings.{Ready, ReadsValues}
 

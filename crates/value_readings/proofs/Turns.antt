@@ -28,10 +28,10 @@ use Rattle.confidences.specs.Range.{after-range}
 use Rattle.confidences.specs.Rounds.{IsBlock, after-block, ended-leaves, leaves-more, leaves-none, leaves-prefix, place-above, reading-above, reading-one, reading-zero, values-more, values-none}
 use Rattle.confidences.specs.ValueLaws.{front-block, front-is, front-range, front-values}
 use Rattle.confidences.specs.Values.{Values, frontOf}
-use Rattle.value_orders.specs.Leaves.{placeNamed}
 use Rattle.value_orders.specs.declared.ends.Ended.{Ended}
-use Rattle.value_rounds.specs.Polls.{Renewed, Rounded}
-use Rattle.value_readings.specs.Readings.{Ready, ReadsValues, placeIn}
+use Rattle.value_readings.specs.Polls.{Renewed, Rounded}
+use Rattle.value_readings.specs.Readings.{Ready, ReadsValues}
+use Rattle.value_orders.specs.Leaves.{placeIn}
 
 -- an answer that names no place
 abbrev pub Unnamed : Verdict → Ended → Type 0
@@ -193,7 +193,7 @@ module _ (m r limit left : ℕ) (xs : List ℤ) where
 
     -- the rounds are used up
     pub turn-last : limit ≤ k → {zs : List ℤ} {e : Ended} → Read (2 ^ m) (ended m r (frontOf (2 ^ m) ys) k used) zs (e .answer)
-        → e .place ≡ placeNamed m (ended m r (frontOf (2 ^ m) ys) k used) (frontOf (2 ^ m) ys) → ReadsValues m r limit left x zs e
+        → e .place ≡ placeIn (ended m r (frontOf (2 ^ m) ys) k used) (lowestZero m (frontOf (2 ^ m) ys)) → ReadsValues m r limit left x zs e
     turn-last h {zs} {e} read place =
         let last : k ≡ limit = omega (arith, turn .many) in
         let whole : ended m r (frontOf (2 ^ m) ys) k used ≡ reading r m limit x =

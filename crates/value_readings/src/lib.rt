@@ -5,8 +5,12 @@ ghost use mathlib.Core.Path.{_≡_};
 ghost use Prim.Native.Nat.{suc, _^_, _≤_};
 ghost use Rattle.confidences.specs.Confidences;
 ghost use Rattle.confidences.specs.Values.{frontOf};
-ghost use Rattle.value_rounds.specs.Polls.{Renewed};
+ghost use Rattle.value_readings.specs.Polls.{Renewed};
 ghost use Rattle.value_readings.specs.Readings.{Ready, ReadsValues};
+use rounds::answers::hear_answer;
+use rounds::ends::clear;
+use rounds::ends::conclude;
+use rounds::leaf_round;
 use steps::Count;
 use told::Noise;
 use told::Verdict;
@@ -14,11 +18,9 @@ use value_orders::ends::Ended;
 use value_orders::ends::finish;
 use value_orders::first_order;
 use value_orders::zero_order;
-use value_rounds::answers::hear_answer;
-use value_rounds::ends::clear;
-use value_rounds::ends::conclude;
-use value_rounds::leaf_round;
 use value_steps::project;
+
+mod rounds;
 
 // An answer that names no place.
 fn unnamed(answer: Verdict) -> Ended

@@ -1,28 +1,30 @@
--- Projections by blocks of 4 cosets, and those of four directions one after the other. Assumes nothing.
-use Prim.Native.Nat.{ℕ, suc, _+_, _*_, _/_, _%_, _^_, _≤_, _<_}
-use mathlib.Core.Path.{_≡_, sym, ap, ap₂, _∙_}
+-- Projections by blocks of 4 cosets, and those of four directions together. Assumes nothing.
+use Prim.Native.Nat.{ℕ, suc, _+_, _-_, _*_, _/_, _%_, _^_, _≤_, _<_}
+use mathlib.Core.Path.{_≡_, refl, sym, ap, ap₂, _∙_, subst}
 use mathlib.Core.List.{List}
-use native.Mathlib.Nat.{add-zero, div-add-mod', add-mul-div-right, div-eq-of-lt, mul-le-mul-right, suc-mul}
+use native.Mathlib.Decide.{decLt}
+use native.Mathlib.Nat.{add-zero, add-mul, div-lt-iff-lt-mul, mod-lt, mul-le-mul-right, suc-mul}
 use native.Mathlib.Omega.{arith}
 use lib.Bits.{bitXor, xor-zero-l}
 use lib.ListN.{length}
 use lib.IntN.{ℤ, pos, natAbs}
-use lib.Pow.{pow-pos}
+use lib.Pow.{pow-pos, split}
 use mir.Syntax.{w64}
 use mir.Val.{Fits}
-use Rattle.words.specs.Written.{Written, written-none, written-run, written-to}
+use Rattle.words.specs.Written.{Written}
 use Rattle.area.specs.Area.{at, fourOf}
 use Rattle.area.specs.AreaLaws.{four-as}
 use Rattle.area.specs.Numbers.{stored, stored-eq}
 use Rattle.area.specs.Places.{index-fits}
 use Rattle.confidences.specs.Confidences.{joint, projectValues}
-use Rattle.confidences.specs.ValueLaws.{same-front}
-use Rattle.confidences.specs.Values.{Projects, ProjectsFour, frontOf, fourProjected}
+use Rattle.confidences.specs.Values.{ProjectsFour, frontOf, fourProjected}
 use Rattle.projections.specs.FourLaws.{four-lt}
+use Rattle.projections.proofs.FourTurns.{FourTurn, block-room}
 use Rattle.value_steps.specs.Pairs.{ValuePair, ValueBlocks, pairJoint}
 use Rattle.value_steps.proofs.Joints.{joint-small}
 use Rattle.value_steps.proofs.ValueReads.{value-small, joint-kept}
-use Rattle.value_steps.proofs.FourTurns.{digits-ask}
+use Rattle.value_steps.proofs.Turns.{zeros}
+use Rattle.value_steps.proofs.FourTurns.{digits-ask, value-blocks, four-joint}
 
 -- ---- one pair
 
@@ -76,57 +78,98 @@ module _ {c p z l : ℕ} {xs : List ℤ} (t : ValueBlocks c p z l xs) where
       (pair-stored (pair-of 2 (omega arith)) ed)
       (pair-stored (pair-of 3 (omega arith)) ee)
 
--- ---- four runs
+-- ---- four runs, made by blocks of 4 entries of each
 
--- entry q of run l
-run-entry : (m k : ℕ) (x : List ℤ) (l q j : ℕ) → q < 2 ^ m → j ≡ q + l * 2 ^ m → fourProjected m k x j ≡ at (projectValues m (4 * k + l) x) q
-run-entry m k x l q j lq e =
-    let quotient : j / 2 ^ m ≡ l = ap (λ (i : ℕ). i / 2 ^ m) e ∙ add-mul-div-right q l (pow-pos m) ∙ ap (λ (i : ℕ). i + l) (div-eq-of-lt lq) ∙ omega arith in
-    let rest : j % 2 ^ m ≡ q = omega (arith, div-add-mod' j (2 ^ m), ap (λ (i : ℕ). i * 2 ^ m) quotient) in
-    ap₂ (λ (u v : ℕ). at (projectValues m (4 * k + u) x) v) quotient rest
+-- entry j of run i, of direction 4 k + i
+abbrev Made : (m k : ℕ) (xs ys : List ℤ) (i j : ℕ) → Type 0
+Made m k xs ys i j = at ys (4 * 2 ^ m + (i * 2 ^ m + j)) ≡ at (projectValues m (4 * k + i) (frontOf (2 ^ suc m) xs)) j
 
--- the area after the projections by 4 k to 4 k + l - 1
-pub record Joined (m k : ℕ) (xs : List ℤ) (l : ℕ) (ys : List ℤ) : Type 0 where
-  pub asks : ProjectsFour m k xs
-  pub runs : Written (pos 0) (4 * 2 ^ m) (l * 2 ^ m) (fourProjected m k (frontOf (2 ^ suc m) xs)) xs ys
+-- a run ends where the next one starts
+run-ends : (m : ℕ) {i l : ℕ} → i < l → i * 2 ^ m + 2 ^ m ≤ l * 2 ^ m
+run-ends m {i} h = omega (arith, suc-mul i (2 ^ m), mul-le-mul-right (2 ^ m) h)
 
-pub joined-none : {m k : ℕ} {xs : List ℤ} → ProjectsFour m k xs → Joined m k xs 0 xs
-joined-none {m} asks = record { asks = asks; runs = written-to (written-none (pos 0) (4 * 2 ^ m) _ _) (0 * 2 ^ m) (omega arith) }
+-- ys is xs with the entries below q of each run made, and of the first l runs the four from q on
+pub record Joining (m k : ℕ) (xs : List ℤ) (q l : ℕ) (ys : List ℤ) : Type 0 where
+  pub long : length ys ≡ length xs
+  pub done : (i j : ℕ) → i < 4 → j < q → Made m k xs ys i j
+  pub here : (i j : ℕ) → i < l → j < 4 → Made m k xs ys i (q + j)
+  pub below : (j : ℕ) → j < 4 * 2 ^ m → at ys j ≡ at xs j
+  pub above : (j : ℕ) → 8 * 2 ^ m ≤ j → at ys j ≡ at xs j
 
-module _ {m k l : ℕ} {xs ys : List ℤ} (t : Joined m k xs l ys) (hl : l < 4) where
-  same : (j : ℕ) → j < 2 ^ suc m → at ys j ≡ at xs j
-  same j lj = t .runs .below j (omega arith)
+-- before the first turn
+pub joining-none : (m k : ℕ) (xs : List ℤ) → Joining m k xs 0 0 xs
+joining-none m k xs = record {
+  long = refl;
+  done = λ i j hi hj. absurd (omega arith);
+  here = λ i j hi hj. absurd (omega arith);
+  below = λ j l. refl;
+  above = λ j l. refl;
+}
 
-  front-kept : frontOf (2 ^ suc m) ys ≡ frontOf (2 ^ suc m) xs
-  front-kept = same-front (record { long = t .runs .long; same = same }) (t .asks .values .room)
-
-  -- what the next one asks of it, c being its place
-  pub next-asks : {c : ℕ} → c ≡ 4 * 2 ^ m + l * 2 ^ m → Projects m (4 * k + l) c ys
-  next-asks {c} e =
-      let d = digits-ask (t .asks) l hl in
-      let whole : l * 2 ^ m + 2 ^ m ≤ 4 * 2 ^ m = omega (arith, mul-le-mul-right {m = l} {n = 3} (2 ^ m) (omega arith)) in
-      record {
-        few = d .few;
-        some = d .some;
-        under = d .under;
-        beyond = omega arith;
-        room = omega (arith, t .asks .room, t .runs .long);
-        values = record {
-          room = omega (arith, t .asks .values .room, t .runs .long);
-          small = λ p lp. rw (same p lp) (t .asks .values .small p lp);
-        };
-      }
-
-  pub joined-more : {c : ℕ} {zs : List ℤ} → Written (pos 0) c (2 ^ m) (at (projectValues m (4 * k + l) (frontOf (2 ^ suc m) ys))) ys zs
-      → c ≡ 4 * 2 ^ m + l * 2 ^ m → Joined m k xs (suc l) zs
-  joined-more w e = record {
-    asks = t .asks;
-    runs = written-to
-        (written-run (t .runs) w e
-        (λ q lq. ap (λ (x : List ℤ). at (projectValues m (4 * k + l) x) q) front-kept
-        ∙ sym (run-entry m k (frontOf (2 ^ suc m) xs) l q (l * 2 ^ m + q) lq (omega arith))))
-        (suc l * 2 ^ m) (omega (arith, suc-mul l (2 ^ m)));
+module _ {m k q : ℕ} {xs ys : List ℤ} where
+  -- after a turn
+  pub joining-next : Joining m k xs q 4 ys → Joining m k xs (q + 4) 0 ys
+  joining-next t = record {
+    long = t .long;
+    done = λ i j hi hj. elim (decLt j q) [
+      | yes h ↦ t .done i j hi h
+      | no h ↦ let e : q + (j - q) ≡ j = omega arith in subst (Made m k xs ys i) e (t .here i (j - q) hi (omega arith))
+    ];
+    here = λ i j hi hj. absurd (omega arith);
+    below = t .below;
+    above = t .above;
   }
 
-pub joined-all : {m k : ℕ} {xs ys : List ℤ} → Joined m k xs 4 ys → Written (pos 0) (4 * 2 ^ m) (4 * 2 ^ m) (fourProjected m k (frontOf (2 ^ suc m) xs)) xs ys
-joined-all t = t .runs
+  -- after the last
+  pub joining-all : Joining m k xs q 0 ys → q ≡ 2 ^ m → Written (pos 0) (4 * 2 ^ m) (4 * 2 ^ m) (fourProjected m k (frontOf (2 ^ suc m) xs)) xs ys
+  joining-all t e = record {
+    long = t .long;
+    within = λ j lj. ap (λ (x : ℕ). at ys (4 * 2 ^ m + x)) (sym (split j m))
+        ∙ t .done (j / 2 ^ m) (j % 2 ^ m) (div-lt-iff-lt-mul (pow-pos m) .1 lj) (rw e (mod-lt j (pow-pos m)));
+    below = t .below;
+    above = λ j lj. t .above j (omega arith);
+  }
+
+-- a turn: p is the representative of coset q
+pub record FourJoin (m k : ℕ) (xs : List ℤ) (n h q p : ℕ) : Type 0 where
+  pub asks : ProjectsFour m k xs
+  pub size : n ≡ 2 ^ m
+  pub turn : (l : ℕ) → l < 4 → FourTurn m h (4 * k) l (zeros m) q p
+
+module _ {m k n h q p : ℕ} {xs : List ℤ} (t : FourJoin m k xs n h q p) where
+  pub number : q + 4 ≤ 2 ^ m
+  number = block-room (t .turn 0 (omega arith))
+
+  -- the numbers that the code makes
+  pub run-fits : length xs * 4 < 2 ^ 63 → {x : ℕ} → x ≤ 7 * n + q → Fits w64 x
+  run-fits small l = index-fits small (omega (arith, t .asks .room, t .size, number))
+
+  -- ---- its block of run l
+
+  module _ (l : ℕ) (hl : l < 4) {ys : List ℤ} (w : Joining m k xs q l ys) where
+    place : (4 + l) * n + q ≡ 4 * 2 ^ m + (l * 2 ^ m + q)
+    place = rw (t .size, add-mul 4 l (2 ^ m)) (omega arith)
+
+    same : (j : ℕ) → j < 2 ^ suc m → at ys j ≡ at xs j
+    same j lj = w .below j (omega arith)
+
+    pub join-asks : ValueBlocks ((4 + l) * n + q) p (bitXor p (4 * k)) l ys
+    join-asks = value-blocks (t .turn l hl) (digits-ask (t .asks) l hl) ys (w .long) same ((4 + l) * n + q) (omega (arith, t .asks .room, place, number, run-ends m hl))
+
+    pub joining-more : {zs : List ℤ} → Written (pos 0) ((4 + l) * n + q) 4 (λ i. pairJoint ys (p + i) (bitXor p (4 * k) + bitXor i l)) ys zs → Joining m k xs q (suc l) zs
+    joining-more {zs} v = record {
+      long = v .long ∙ w .long;
+      done = λ i j hi hj. elim (decLt l i) [
+        | yes a ↦ v .above (4 * 2 ^ m + (i * 2 ^ m + j)) (omega (arith, place, number, run-ends m a)) ∙ w .done i j hi hj
+        | no a ↦ v .below (4 * 2 ^ m + (i * 2 ^ m + j)) (omega (arith, place, mul-le-mul-right {m = i} {n = l} (2 ^ m) (omega arith))) ∙ w .done i j hi hj
+      ];
+      here = λ i j hi hj. elim (decLt i l) [
+        | yes a ↦ v .below (4 * 2 ^ m + (i * 2 ^ m + (q + j))) (omega (arith, place, number, run-ends m a)) ∙ w .here i j a hj
+        | no a ↦
+            let e : l ≡ i = omega arith in
+            let there : 4 * 2 ^ m + (l * 2 ^ m + (q + j)) ≡ (4 + l) * n + q + j = omega (arith, place) in
+            subst (λ (x : ℕ). Made m k xs zs x (q + j)) e (ap (at zs) there ∙ v .within j hj ∙ four-joint (t .turn l hl) (digits-ask (t .asks) l hl) ys same j hj)
+      ];
+      below = λ j lj. v .below j (omega (arith, place)) ∙ w .below j lj;
+      above = λ j lj. v .above j (omega (arith, place, number, run-ends m hl)) ∙ w .above j lj;
+    }

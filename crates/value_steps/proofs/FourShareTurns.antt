@@ -1,6 +1,7 @@
--- A turn of `share_four`: of the cosets q to q + 3 of four directions, the members hear each other. Assumes nothing.
-use Prim.Native.Nat.{ℕ, suc, _+_, _*_, _^_, _≤_, _<_}
+-- A turn of `share_some` and `share_four`: of the cosets q to q + 3 of four directions, the members hear each other. Assumes nothing.
+use Prim.Native.Nat.{ℕ, suc, _+_, _*_, _%_, _^_, _≤_, _<_}
 use mathlib.Core.Path.{_≡_, sym, ap, ap₂, _∙_}
+use mathlib.Core.Bool.{Bool}
 use mathlib.Core.List.{List}
 use native.Mathlib.Omega.{arith}
 use lib.Bits.{bitXor}
@@ -12,22 +13,37 @@ use Rattle.words.specs.SumLaws.{sumℤ-ext}
 use Rattle.words.specs.Written.{Written}
 use Rattle.area.specs.Area.{at}
 use Rattle.area.specs.Places.{index-fits}
-use Rattle.direction.specs.Direction.{cosetOf}
+use Rattle.direction.specs.Direction.{highest, insertZero, cosetOf}
 use Rattle.projections.specs.FourLaws.{four-lt}
 use Rattle.projections.proofs.FourTurns.{FourTurn, block-room, four-members, four-partner, partner-place}
 use Rattle.confidences.specs.Confidences.{greatest}
-use Rattle.confidences.specs.Values.{ProjectsFour, Sums, heardAt, fourHeard}
-use Rattle.value_steps.specs.Shares.{said, FourHears, fourSaid}
-use Rattle.value_steps.proofs.Turns.{zeros, SetBelow, Blocks, still, set-more}
-use Rattle.value_steps.proofs.FourTurns.{four-some, coset-one, coset-two, back-two, four-blocks}
+use Rattle.confidences.specs.Values.{ProjectsFour, Sums}
+use Rattle.value_steps.specs.Shares.{voiced, wordAt, FourHears, fourSaid, wordsAt}
+use Rattle.value_steps.proofs.Turns.{zeros, word-asks, SetBelow, set-none, set-all, Blocks, still, set-more}
+use Rattle.value_steps.proofs.FourTurns.{four-some, four-turn, coset-one, coset-two, back-two, four-blocks}
+
+-- what stands in the area where the sums of the cosets below q are set, by the directions that have words
+pub record Sharing (m k : ℕ) (w : ℕ → Bool) (xs : List ℤ) (q : ℕ) (ys : List ℤ) : Type 0 where
+  pub many : q ≤ 2 ^ m
+  pub whole : q % 4 ≡ 0
+  pub so-far : SetBelow m (4 * k) (λ p. at xs (2 ^ suc m + p) +ℤ wordsAt m k w xs p) xs q ys
+
+pub share-none : (m k : ℕ) (w : ℕ → Bool) (xs : List ℤ) → Sharing m k w xs 0 xs
+share-none m k w xs = record { many = omega arith; whole = omega arith; so-far = set-none m (4 * k) _ xs }
+
+pub share-all : {m k q : ℕ} {w : ℕ → Bool} {xs ys : List ℤ} → ProjectsFour m k xs → Sharing m k w xs q ys → 2 ^ m ≤ q
+    → Written (pos 0) (2 ^ suc m) (2 ^ suc m) (λ p. at xs (2 ^ suc m + p) +ℤ wordsAt m k w xs p) xs ys
+share-all {m} {k} asks s l = set-all (word-asks m (4 * k) (asks .few) (four-some asks) (asks .under)) (s .so-far) l
 
 -- p is the representative of coset q, and ys the area before the turn
-pub record FourShare (m k : ℕ) (xs : List ℤ) (n h q p : ℕ) (ys : List ℤ) : Type 0 where
+pub record FourShare (m k : ℕ) (w : ℕ → Bool) (xs : List ℤ) (n h q p : ℕ) (ys : List ℤ) : Type 0 where
   pub asks : ProjectsFour m k xs
   pub sums : Sums (2 ^ suc m) xs
   pub size : n ≡ 2 ^ m
-  pub turn : (l : ℕ) → l < 4 → FourTurn m h (4 * k) l (zeros m) q p
-  pub so-far : SetBelow m (4 * k) (λ p. at xs (2 ^ suc m + p) +ℤ fourHeard m k xs p) xs q ys
+  pub top : h ≡ highest (4 * k)
+  pub below : q < 2 ^ m
+  pub inserted : p ≡ insertZero h q
+  pub before : Sharing m k w xs q ys
 
 -- the numbers that the code makes of a turn's places
 pub record Rooms (n q p z : ℕ) : Type 0 where
@@ -38,12 +54,17 @@ pub record Rooms (n q p z : ℕ) : Type 0 where
   pub two : Fits w64 (2 * n + z)
   pub next : Fits w64 (q + 4)
 
-module _ {m k n h q p : ℕ} {xs ys : List ℤ} (t : FourShare m k xs n h q p ys) where
+module _ {m k n h q p : ℕ} {w : ℕ → Bool} {xs ys : List ℤ} (t : FourShare m k w xs n h q p ys) where
   abbrev z : ℕ
   z = bitXor p (4 * k)
 
+  open Sharing (t .before) using (so-far)
+
+  turn : (l : ℕ) → l < 4 → FourTurn m h (4 * k) l (zeros m) q p
+  turn l hl = four-turn (t .asks) l hl (t .top) (t .below) (t .before .whole) (t .inserted)
+
   plain : FourTurn m h (4 * k) 0 (zeros m) q p
-  plain = t .turn 0 (omega arith)
+  plain = turn 0 (omega arith)
 
   blocks : Blocks m (4 * k) 4 q p z
   blocks = four-blocks plain (four-some (t .asks))
@@ -64,7 +85,7 @@ module _ {m k n h q p : ℕ} {xs ys : List ℤ} (t : FourShare m k xs n h q p ys
       }
 
   abbrev f : ℕ → ℤ
-  f r = at xs (2 ^ suc m + r) +ℤ fourHeard m k xs r
+  f r = at xs (2 ^ suc m + r) +ℤ wordsAt m k w xs r
 
   -- ---- an area whose front and signs are those of xs
 
@@ -77,23 +98,23 @@ module _ {m k n h q p : ℕ} {xs ys : List ℤ} (t : FourShare m k xs n h q p ys
     sign-at l s x e =
         signs (4 * n + q + l * n + s) (omega (arith, t .size)) ∙ ap (at xs) (omega (arith, t .size, ap (λ (y : ℕ). l * y) (t .size)))
 
-    heard-one : (i : ℕ) → i < 4 → fourSaid (λ _. i) n (4 * n + q) z zs i ≡ fourHeard m k xs (p + i)
+    heard-one : (i : ℕ) → i < 4 → fourSaid w (λ _. i) n (4 * n + q) z zs i ≡ wordsAt m k w xs (p + i)
     heard-one i hi =
-        sumℤ-ext 4 (λ l. said (at zs (4 * n + q + l * n + i)) (at zs (z + bitXor i l))) (λ l. heardAt (4 * k + l) (4 * 2 ^ m + l * 2 ^ m) xs (p + i))
-        (λ l hl. ap₂ said (sign-at l i (cosetOf (4 * k + l) (p + i)) (coset-one (t .turn l hl) i hi))
-        (front (z + bitXor i l) (partner-place plain (bitXor i l) (four-lt hi hl)) ∙ ap (at xs) (sym (four-partner (t .turn l hl) i hi))))
+        sumℤ-ext 4 (λ l. voiced (w l) (at zs (4 * n + q + l * n + i)) (at zs (z + bitXor i l))) (λ l. wordAt (w l) (4 * k + l) (4 * 2 ^ m + l * 2 ^ m) xs (p + i))
+        (λ l hl. ap₂ (voiced (w l)) (sign-at l i (cosetOf (4 * k + l) (p + i)) (coset-one (turn l hl) i hi))
+        (front (z + bitXor i l) (partner-place plain (bitXor i l) (four-lt hi hl)) ∙ ap (at xs) (sym (four-partner (turn l hl) i hi))))
 
-    heard-two : (i : ℕ) → i < 4 → fourSaid (bitXor i) n (4 * n + q) p zs i ≡ fourHeard m k xs (z + i)
+    heard-two : (i : ℕ) → i < 4 → fourSaid w (bitXor i) n (4 * n + q) p zs i ≡ wordsAt m k w xs (z + i)
     heard-two i hi =
-        sumℤ-ext 4 (λ l. said (at zs (4 * n + q + l * n + bitXor i l)) (at zs (p + bitXor i l))) (λ l. heardAt (4 * k + l) (4 * 2 ^ m + l * 2 ^ m) xs (z + i))
-        (λ l hl. ap₂ said (sign-at l (bitXor i l) (cosetOf (4 * k + l) (z + i)) (coset-two (t .turn l hl) i hi))
-        (front (p + bitXor i l) (four-members plain (bitXor i l) (four-lt hi hl) .place) ∙ ap (at xs) (sym (back-two (t .turn l hl) i hi))))
+        sumℤ-ext 4 (λ l. voiced (w l) (at zs (4 * n + q + l * n + bitXor i l)) (at zs (p + bitXor i l))) (λ l. wordAt (w l) (4 * k + l) (4 * 2 ^ m + l * 2 ^ m) xs (z + i))
+        (λ l hl. ap₂ (voiced (w l)) (sign-at l (bitXor i l) (cosetOf (4 * k + l) (z + i)) (coset-two (turn l hl) i hi))
+        (front (p + bitXor i l) (four-members plain (bitXor i l) (four-lt hi hl) .place) ∙ ap (at xs) (sym (back-two (turn l hl) i hi))))
 
   -- ---- the representatives, and then the other members
 
   -- the sum of a member, before it hears
   sum-ahead : (r i : ℕ) → r + 4 ≤ 2 ^ suc m → i < 4 → cosetOf (4 * k) (r + i) ≡ q + i → at ys (2 * n + r + i) ≡ at xs (2 ^ suc m + (r + i))
-  sum-ahead r i l hi e = ap (at ys) {x = 2 * n + r + i} {y = 2 ^ suc m + (r + i)} (omega (arith, t .size)) ∙ t .so-far .ahead (r + i) (omega arith) (omega arith)
+  sum-ahead r i l hi e = ap (at ys) {x = 2 * n + r + i} {y = 2 ^ suc m + (r + i)} (omega (arith, t .size)) ∙ so-far .ahead (r + i) (omega arith) (omega arith)
 
   few : (r i : ℕ) → r + 4 ≤ 2 ^ suc m → i < 4 → cosetOf (4 * k) (r + i) ≡ q + i → natAbs (at ys (2 * n + r + i)) < 2 ^ 29
   few r i l hi e = rw (sum-ahead r i l hi e) (t .sums .small (r + i) (omega arith))
@@ -101,20 +122,20 @@ module _ {m k n h q p : ℕ} {xs ys : List ℤ} (t : FourShare m k xs n h q p ys
   pub first-asks : FourHears n (4 * n + q) z (2 * n + p) ys
   first-asks = record {
     says = record {
-      signs = omega (arith, t .asks .room, t .so-far .long, t .size, number);
-      values = omega (arith, t .asks .room, t .so-far .long, blocks .partner);
-      small = λ i hi. value ys (t .so-far .below) (t .so-far .above) (z + i) (omega (arith, blocks .partner));
+      signs = omega (arith, t .asks .room, so-far .long, t .size, number);
+      values = omega (arith, t .asks .room, so-far .long, blocks .partner);
+      small = λ i hi. value ys (so-far .below) (so-far .above) (z + i) (omega (arith, blocks .partner));
     };
-    room = omega (arith, t .asks .room, t .so-far .long, t .size, blocks .place);
+    room = omega (arith, t .asks .room, so-far .long, t .size, blocks .place);
     few = λ i hi. few p i (blocks .place) hi (blocks .one i hi);
   }
 
-  module _ {us : List ℤ} (first : Written (pos 0) (2 * n + p) 4 (λ i. at ys (2 * n + p + i) +ℤ fourSaid (λ _. i) n (4 * n + q) z ys i) ys us) where
+  module _ {us : List ℤ} (first : Written (pos 0) (2 * n + p) 4 (λ i. at ys (2 * n + p + i) +ℤ fourSaid w (λ _. i) n (4 * n + q) z ys i) ys us) where
     front-kept : (j : ℕ) → j < 2 ^ suc m → at us j ≡ at xs j
-    front-kept j l = first .below j (omega (arith, t .size)) ∙ t .so-far .below j l
+    front-kept j l = first .below j (omega (arith, t .size)) ∙ so-far .below j l
 
     signs-kept : (j : ℕ) → 4 * 2 ^ m ≤ j → at us j ≡ at xs j
-    signs-kept j l = first .above j (omega (arith, t .size, blocks .place)) ∙ t .so-far .above j l
+    signs-kept j l = first .above j (omega (arith, t .size, blocks .place)) ∙ so-far .above j l
 
     sum-kept : (i : ℕ) → i < 4 → at us (2 * n + z + i) ≡ at ys (2 * n + z + i)
     sum-kept i hi = still {y = 2 * n + z} blocks first (omega (arith, t .size)) (omega (arith, t .size)) i hi
@@ -122,17 +143,20 @@ module _ {m k n h q p : ℕ} {xs ys : List ℤ} (t : FourShare m k xs n h q p ys
     pub second-asks : FourHears n (4 * n + q) p (2 * n + z) us
     second-asks = record {
       says = record {
-        signs = omega (arith, t .asks .room, first .long, t .so-far .long, t .size, number);
-        values = omega (arith, t .asks .room, first .long, t .so-far .long, blocks .place);
+        signs = omega (arith, t .asks .room, first .long, so-far .long, t .size, number);
+        values = omega (arith, t .asks .room, first .long, so-far .long, blocks .place);
         small = λ i hi. value us front-kept signs-kept (p + i) (omega (arith, blocks .place));
       };
-      room = omega (arith, t .asks .room, first .long, t .so-far .long, t .size, blocks .partner);
+      room = omega (arith, t .asks .room, first .long, so-far .long, t .size, blocks .partner);
       few = λ i hi. rw (sum-kept i hi) (few z i (blocks .partner) hi (blocks .two i hi));
     }
 
-    pub share-more : {vs : List ℤ} → Written (pos 0) (2 * n + z) 4 (λ i. at us (2 * n + z + i) +ℤ fourSaid (bitXor i) n (4 * n + q) p us i) us vs
-        → SetBelow m (4 * k) f xs (q + 4) vs
-    share-more second =
-        set-more blocks (t .so-far) first second (omega (arith, t .size)) (omega (arith, t .size))
-        (λ i hi. ap₂ _+ℤ_ (sum-ahead p i (blocks .place) hi (blocks .one i hi)) (heard-one ys (t .so-far .below) (t .so-far .above) i hi))
-        (λ i hi. ap₂ _+ℤ_ (sum-kept i hi ∙ sum-ahead z i (blocks .partner) hi (blocks .two i hi)) (heard-two us front-kept signs-kept i hi))
+    pub share-more : {vs : List ℤ} → Written (pos 0) (2 * n + z) 4 (λ i. at us (2 * n + z + i) +ℤ fourSaid w (bitXor i) n (4 * n + q) p us i) us vs
+        → Sharing m k w xs (q + 4) vs
+    share-more second = record {
+      many = number;
+      whole = omega (arith, t .before .whole);
+      so-far = set-more blocks so-far first second (omega (arith, t .size)) (omega (arith, t .size))
+          (λ i hi. ap₂ _+ℤ_ (sum-ahead p i (blocks .place) hi (blocks .one i hi)) (heard-one ys (so-far .below) (so-far .above) i hi))
+          (λ i hi. ap₂ _+ℤ_ (sum-kept i hi ∙ sum-ahead z i (blocks .partner) hi (blocks .two i hi)) (heard-two us front-kept signs-kept i hi));
+    }

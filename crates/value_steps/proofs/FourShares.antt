@@ -1,6 +1,7 @@
 -- What four directions say of a block of 4 places, added to their sums. Assumes nothing.
 use Prim.Native.Nat.{ℕ, suc, _+_, _*_, _^_, _≤_, _<_}
 use mathlib.Core.Path.{_≡_, refl, sym, ap, ap₂, _∙_, subst}
+use mathlib.Core.Bool.{Bool, true, false}
 use mathlib.Core.List.{List}
 use native.Mathlib.Nat.{add-zero}
 use native.Mathlib.Omega.{arith}
@@ -20,7 +21,8 @@ use Rattle.hadamard.specs.Correlation.{constantOf}
 use Rattle.hadamard.specs.CorrelationLaws.{natAbs-signed}
 use Rattle.projections.specs.FourLaws.{four-lt}
 use Rattle.confidences.specs.Confidences.{greatest}
-use Rattle.value_steps.specs.Shares.{said, Says, FourSays, FourHears, fourSaid, fourPlaces, Addends}
+use Rattle.value_steps.specs.Shares.{voiced, Says, FourSays, FourHears, voicesOf, fourSaid, fourPlaces, Addends}
+use Rattle.value_steps.specs.declared.quads.Voices.{Voices}
 
 -- ---- four numbers summed
 
@@ -92,30 +94,31 @@ module _ {n c o : ℕ} {xs : List ℤ} (t : FourSays n c o xs) where
   pub other-fits : length xs * 4 < 2 ^ 63 → (j : ℕ) → j < 4 → Fits w64 (o + j)
   other-fits small j l = index-fits small (omega (arith, t .values))
 
-  said-within : {v : ℤ} (y j : ℕ) → j < 4 → v ≡ said (at xs y) (at xs (o + j)) → Within 1 v
-  said-within y j lj e = record { within = omega (arith, ap natAbs e, natAbs-signed (constantOf (at xs y)) (at xs (o + j)), t .small j lj) }
+  voiced-within : {v : ℤ} (w : Bool) (y j : ℕ) → j < 4 → v ≡ voiced w (at xs y) (at xs (o + j)) → Within 1 v
+  voiced-within true y j lj e = record { within = omega (arith, ap natAbs e, natAbs-signed (constantOf (at xs y)) (at xs (o + j)), t .small j lj) }
+  voiced-within false y j lj e = record { within = omega (arith, ap natAbs e) }
 
-  pub all-within : (s : ℕ → ℕ) (i : ℕ) → i < 4 → Within 4 (fourSaid s n c o xs i)
-  all-within s i hi =
-      let each : (l : ℕ) → l < 4 → Within 1 (said (at xs (c + l * n + s l)) (at xs (o + bitXor i l))) = λ l hl. said-within (c + l * n + s l) (bitXor i l) (four-lt hi hl) refl in
-      subst (Within 4) (sym (sum-of-four (λ l. said (at xs (c + l * n + s l)) (at xs (o + bitXor i l)))))
-      (four-within (each 0 (omega arith)) (each 1 (omega arith)) (each 2 (omega arith)) (each 3 (omega arith)))
+  pub all-within : (w : ℕ → Bool) (s : ℕ → ℕ) (i : ℕ) → i < 4 → Within 4 (fourSaid w s n c o xs i)
+  all-within w s i hi =
+      let f : ℕ → ℤ = λ l. voiced (w l) (at xs (c + l * n + s l)) (at xs (o + bitXor i l)) in
+      let each : (l : ℕ) → l < 4 → Within 1 (f l) = λ l hl. voiced-within (w l) (c + l * n + s l) (bitXor i l) (four-lt hi hl) refl in
+      subst (Within 4) (sym (sum-of-four f)) (four-within (each 0 (omega arith)) (each 1 (omega arith)) (each 2 (omega arith)) (each 3 (omega arith)))
 
   -- what the code has of each
-  module _ {i s1 s2 s3 : ℕ} (low : (i < 4) × (s1 < 4) × (s2 < 4) × (s3 < 4)) {a b d e : ℤ}
-      (ea : a ≡ said (at xs (c + i)) (at xs (o + i))) (eb : b ≡ said (at xs (c + n + s1)) (at xs (o + bitXor i 1)))
-      (ed : d ≡ said (at xs (c + 2 * n + s2)) (at xs (o + bitXor i 2))) (ee : e ≡ said (at xs (c + 3 * n + s3)) (at xs (o + bitXor i 3))) where
+  module _ (v : Voices) {i s1 s2 s3 : ℕ} (low : (i < 4) × (s1 < 4) × (s2 < 4) × (s3 < 4)) {a b d e : ℤ}
+      (ea : a ≡ voiced (v .a) (at xs (c + i)) (at xs (o + i))) (eb : b ≡ voiced (v .b) (at xs (c + n + s1)) (at xs (o + bitXor i 1)))
+      (ed : d ≡ voiced (v .c) (at xs (c + 2 * n + s2)) (at xs (o + bitXor i 2))) (ee : e ≡ voiced (v .d) (at xs (c + 3 * n + s3)) (at xs (o + bitXor i 3))) where
     wa : Within 1 a
-    wa = said-within (c + i) i (low .0) ea
+    wa = voiced-within (v .a) (c + i) i (low .0) ea
 
     wb : Within 1 b
-    wb = said-within (c + n + s1) (bitXor i 1) (four-lt (low .0) (omega arith)) eb
+    wb = voiced-within (v .b) (c + n + s1) (bitXor i 1) (four-lt (low .0) (omega arith)) eb
 
     wd : Within 1 d
-    wd = said-within (c + 2 * n + s2) (bitXor i 2) (four-lt (low .0) (omega arith)) ed
+    wd = voiced-within (v .c) (c + 2 * n + s2) (bitXor i 2) (four-lt (low .0) (omega arith)) ed
 
     we : Within 1 e
-    we = said-within (c + 3 * n + s3) (bitXor i 3) (four-lt (low .0) (omega arith)) ee
+    we = voiced-within (v .d) (c + 3 * n + s3) (bitXor i 3) (four-lt (low .0) (omega arith)) ee
 
     pub heard-two : SFits w32 (stored a +ℤ stored b)
     heard-two = two-fits wa wb wd we
@@ -126,17 +129,17 @@ module _ {n c o : ℕ} {xs : List ℤ} (t : FourSays n c o xs) where
     pub heard-four : SFits w32 (stored (stored (stored a +ℤ stored b) +ℤ stored d) +ℤ stored e)
     heard-four = four-fits wa wb wd we
 
-    pub heard-is : stored (stored (stored (stored a +ℤ stored b) +ℤ stored d) +ℤ stored e) ≡ fourSaid (fourPlaces i s1 s2 s3) n c o xs i
+    pub heard-is : stored (stored (stored (stored a +ℤ stored b) +ℤ stored d) +ℤ stored e) ≡ fourSaid (voicesOf v) (fourPlaces i s1 s2 s3) n c o xs i
     heard-is =
-        let f : ℕ → ℤ = λ l. said (at xs (c + l * n + fourPlaces i s1 s2 s3 l)) (at xs (o + bitXor i l)) in
+        let f : ℕ → ℤ = λ l. voiced (voicesOf v l) (at xs (c + l * n + fourPlaces i s1 s2 s3 l)) (at xs (o + bitXor i l)) in
         let zeroth : c + i ≡ c + 0 * n + i = omega arith in
         let first : c + n + s1 ≡ c + 1 * n + s1 = omega arith in
         four-is wa wb wd we
         ∙ ap₂ _+ℤ_
         (ap₂ _+ℤ_
         (ap₂ _+ℤ_
-        (ea ∙ ap₂ (λ (u v : ℕ). said (at xs u) (at xs v)) zeroth (ap (λ (x : ℕ). o + x) (sym (xor-zero-r i))))
-        (eb ∙ ap (λ (u : ℕ). said (at xs u) (at xs (o + bitXor i 1))) first))
+        (ea ∙ ap₂ (λ (x y : ℕ). voiced (v .a) (at xs x) (at xs y)) zeroth (ap (λ (x : ℕ). o + x) (sym (xor-zero-r i))))
+        (eb ∙ ap (λ (x : ℕ). voiced (v .b) (at xs x) (at xs (o + bitXor i 1))) first))
         ed)
         ee
         ∙ sym (sum-of-four f)
@@ -172,18 +175,18 @@ module _ {r : ℕ} {a b c d : ℤ} {xs : List ℤ} (t : Addends r a b c d xs) wh
 -- ---- a block of places that hears four directions
 
 -- v0 to v3 are what they say of its places, by the signs that s0 to s3 give
-pub record Heard (s0 s1 s2 s3 : ℕ → ℕ) (n c o r : ℕ) (xs : List ℤ) (v0 v1 v2 v3 : ℤ) : Type 0 where
+pub record Heard (w : ℕ → Bool) (s0 s1 s2 s3 : ℕ → ℕ) (n c o r : ℕ) (xs : List ℤ) (v0 v1 v2 v3 : ℤ) : Type 0 where
   pub asks : FourHears n c o r xs
-  pub zeroth : v0 ≡ fourSaid s0 n c o xs 0
-  pub first : v1 ≡ fourSaid s1 n c o xs 1
-  pub second : v2 ≡ fourSaid s2 n c o xs 2
-  pub third : v3 ≡ fourSaid s3 n c o xs 3
+  pub zeroth : v0 ≡ fourSaid w s0 n c o xs 0
+  pub first : v1 ≡ fourSaid w s1 n c o xs 1
+  pub second : v2 ≡ fourSaid w s2 n c o xs 2
+  pub third : v3 ≡ fourSaid w s3 n c o xs 3
 
-module _ {s0 s1 s2 s3 : ℕ → ℕ} {n c o r : ℕ} {xs : List ℤ} {v0 v1 v2 v3 : ℤ} (t : Heard s0 s1 s2 s3 n c o r xs v0 v1 v2 v3) where
-  half-said : {v : ℤ} (s : ℕ → ℕ) (i : ℕ) → i < 4 → v ≡ fourSaid s n c o xs i → Half v
-  half-said s i hi e = subst Half (sym e) (within-half {k = 4} (omega arith) (all-within (t .asks .says) s i hi))
+module _ {w : ℕ → Bool} {s0 s1 s2 s3 : ℕ → ℕ} {n c o r : ℕ} {xs : List ℤ} {v0 v1 v2 v3 : ℤ} (t : Heard w s0 s1 s2 s3 n c o r xs v0 v1 v2 v3) where
+  half-said : {v : ℤ} (s : ℕ → ℕ) (i : ℕ) → i < 4 → v ≡ fourSaid w s n c o xs i → Half v
+  half-said s i hi e = subst Half (sym e) (within-half {k = 4} (omega arith) (all-within (t .asks .says) w s i hi))
 
-  kept : {v : ℤ} (s : ℕ → ℕ) (i : ℕ) → i < 4 → v ≡ fourSaid s n c o xs i → stored v ≡ fourSaid s n c o xs i
+  kept : {v : ℤ} (s : ℕ → ℕ) (i : ℕ) → i < 4 → v ≡ fourSaid w s n c o xs i → stored v ≡ fourSaid w s n c o xs i
   kept s i hi e = back (half-said s i hi e) ∙ e
 
   pub heard-adds : Addends r (stored v0) (stored v1) (stored v2) (stored v3) xs
@@ -198,19 +201,19 @@ module _ {s0 s1 s2 s3 : ℕ → ℕ} {n c o r : ℕ} {xs : List ℤ} {v0 v1 v2 v
   }
 
   -- the signs by another name
-  renamed : (s u : ℕ → ℕ) (i : ℕ) → ((l : ℕ) → l < 4 → s l ≡ u l) → fourSaid s n c o xs i ≡ fourSaid u n c o xs i
+  renamed : (s u : ℕ → ℕ) (i : ℕ) → ((l : ℕ) → l < 4 → s l ≡ u l) → fourSaid w s n c o xs i ≡ fourSaid w u n c o xs i
   renamed s u i e =
-      sumℤ-ext 4 (λ l. said (at xs (c + l * n + s l)) (at xs (o + bitXor i l))) (λ l. said (at xs (c + l * n + u l)) (at xs (o + bitXor i l)))
-      (λ l hl. ap (λ (x : ℕ). said (at xs (c + l * n + x)) (at xs (o + bitXor i l))) (e l hl))
+      let f : (ℕ → ℕ) → ℕ → ℤ = λ s l. voiced (w l) (at xs (c + l * n + s l)) (at xs (o + bitXor i l)) in
+      sumℤ-ext 4 (f s) (f u) (λ l hl. ap (λ (x : ℕ). voiced (w l) (at xs (c + l * n + x)) (at xs (o + bitXor i l))) (e l hl))
 
   pub heard-written : (u : ℕ → ℕ → ℕ) {ys : List ℤ}
       → ((l : ℕ) → l < 4 → s0 l ≡ u 0 l) → ((l : ℕ) → l < 4 → s1 l ≡ u 1 l) → ((l : ℕ) → l < 4 → s2 l ≡ u 2 l) → ((l : ℕ) → l < 4 → s3 l ≡ u 3 l)
       → Written (pos 0) r 4 (λ i. at xs (r + i) +ℤ fourOf (stored v0) (stored v1) (stored v2) (stored v3) i) xs ys
-      → Written (pos 0) r 4 (λ i. at xs (r + i) +ℤ fourSaid (u i) n c o xs i) xs ys
-  heard-written u e0 e1 e2 e3 w =
-      written-as w (λ i. at xs (r + i) +ℤ fourSaid (u i) n c o xs i)
+      → Written (pos 0) r 4 (λ i. at xs (r + i) +ℤ fourSaid w (u i) n c o xs i) xs ys
+  heard-written u e0 e1 e2 e3 new =
+      written-as new (λ i. at xs (r + i) +ℤ fourSaid w (u i) n c o xs i)
       (λ i hi. ap (λ (x : ℤ). at xs (r + i) +ℤ x)
-      (by-four (λ (i : ℕ). fourOf (stored v0) (stored v1) (stored v2) (stored v3) i ≡ fourSaid (u i) n c o xs i)
+      (by-four (λ (i : ℕ). fourOf (stored v0) (stored v1) (stored v2) (stored v3) i ≡ fourSaid w (u i) n c o xs i)
       (kept s0 0 (omega arith) (t .zeroth) ∙ renamed s0 (u 0) 0 e0)
       (kept s1 1 (omega arith) (t .first) ∙ renamed s1 (u 1) 1 e1)
       (kept s2 2 (omega arith) (t .second) ∙ renamed s2 (u 2) 2 e2)

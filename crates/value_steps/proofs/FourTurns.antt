@@ -15,7 +15,7 @@ use Rattle.direction.specs.Insert.{Top, highest-top, top-le}
 use Rattle.cosets.proofs.Turns.{number-one, number-two, only-members}
 use Rattle.projections.specs.Fours.{InFours}
 use Rattle.projections.specs.FourLaws.{four-lt, pow-whole, high-top, blocks-apart}
-use Rattle.projections.proofs.FourTurns.{FourTurn, block-room, place-whole, four-members, four-partner, partner-place}
+use Rattle.projections.proofs.FourTurns.{FourTurn, place-whole, four-members, four-partner, partner-place}
 use Rattle.confidences.specs.Confidences.{greatest, projectValues}
 use Rattle.confidences.specs.Values.{Projects, ProjectsFour, frontOf}
 use Rattle.value_steps.specs.Pairs.{ValueBlocks, pairJoint}
@@ -49,7 +49,7 @@ module _ {m k : ℕ} {xs : List ℤ} (asks : ProjectsFour m k xs) where
     digits-under : 4 * k + l < 2 ^ suc m
     digits-under = omega (arith, asks .under, pow-whole (suc m) (omega (arith, asks .blocks)))
 
-    pub in-fours : {h : ℕ} → h ≡ highest (4 * k) → InFours h (4 * k) l
+    in-fours : {h : ℕ} → h ≡ highest (4 * k) → InFours h (4 * k) l
     in-fours e = record {
       whole = omega arith;
       some = omega (arith, asks .some);
@@ -75,13 +75,13 @@ module _ {m k : ℕ} {xs : List ℤ} (asks : ProjectsFour m k xs) where
 
 module _ {m h w l q p : ℕ} (t : FourTurn m h w l (zeros m) q p) where
   -- the places of one direction
-  pub value-blocks : {c : ℕ} {xs : List ℤ} → Projects m (w + l) c xs → (ys : List ℤ) → length ys ≡ length xs → ((j : ℕ) → j < 2 ^ suc m → at ys j ≡ at xs j)
-      → ValueBlocks (c + q) p (bitXor p w) l ys
-  value-blocks {c} {xs} asks ys long same =
+  pub value-blocks : {b : ℕ} {xs : List ℤ} → Projects m (w + l) b xs → (ys : List ℤ) → length ys ≡ length xs → ((j : ℕ) → j < 2 ^ suc m → at ys j ≡ at xs j)
+      → (c : ℕ) → c + 4 ≤ length xs → ValueBlocks c p (bitXor p w) l ys
+  value-blocks asks ys long same c room =
       let small : (j : ℕ) → j < 2 ^ suc m → natAbs (at ys j) ≤ greatest = λ j lj. rw (same j lj) (asks .values .small j lj) in
       record {
         low = t .fours .low;
-        room = omega (arith, asks .room, long, block-room t);
+        room = omega (arith, long);
         place = omega (arith, asks .values .room, long, four-members t 3 (omega arith) .place);
         partner = omega (arith, asks .values .room, long, partner-place t 3 (omega arith));
         one = λ i hi. small (p + i) (four-members t i hi .place);

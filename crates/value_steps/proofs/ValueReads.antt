@@ -1,6 +1,7 @@
 -- Confidences as the code reads them from the area. Assumes nothing.
 use Prim.Native.Nat.{ℕ, _^_, _≤_, _<_}
 use mathlib.Core.Path.{_≡_, ap, ap₂, _∙_}
+use mathlib.Core.Bool.{Bool, true, false}
 use mathlib.Core.List.{List}
 use native.Mathlib.Omega.{arith}
 use lib.Seq.{getD-take}
@@ -15,7 +16,7 @@ use Rattle.hadamard.specs.Correlation.{signed, constantOf}
 use Rattle.hadamard.specs.CorrelationLaws.{natAbs-signed}
 use Rattle.confidences.specs.Confidences.{greatest, joint}
 use Rattle.confidences.specs.Values.{frontOf}
-use Rattle.value_steps.specs.Shares.{said, Says, Hears}
+use Rattle.value_steps.specs.Shares.{said, voiced, Says, Hears}
 use Rattle.value_steps.proofs.Joints.{joint-small}
 
 -- the front as a list of its own
@@ -52,6 +53,14 @@ module _ {c o : ℕ} {xs : List ℤ} (t : Says c o xs) where
       let k : SFits w32 (at xs c) = record { sfits = f } in
       let v : r ≡ said (at xs c) (at xs o) = e ∙ ap₂ said (toZ-ofZ k) (value-read (at xs o) (t .small)) in
       rw v (stored-eq (said (at xs c) (at xs o)) (omega (arith, said-small t)))
+
+-- it counts where there is a word
+module _ {c o : ℕ} {xs : List ℤ} (t : Says c o xs) {v : ℤ} (e : v ≡ said (at xs c) (at xs o)) (w : Bool) where
+  pub voiced-taken : w ≡ true → stored v ≡ voiced w (at xs c) (at xs o)
+  voiced-taken is = rw (is, e) (stored-eq (said (at xs c) (at xs o)) (omega (arith, said-small t)))
+
+  pub voiced-left : w ≡ false → pos 0 ≡ voiced w (at xs c) (at xs o)
+  voiced-left is = rw is
 
 -- it is added to the sum at r
 module _ {c o r : ℕ} {xs : List ℤ} (t : Hears c o r xs) {v : ℤ} (e : v ≡ said (at xs c) (at xs o)) where

@@ -11,11 +11,9 @@ ghost use lib.Bits.{bitXor};
 ghost use lib.IntN.{pos, _+ℤ_};
 ghost use Rattle.words.specs.Written.{Written};
 ghost use Rattle.area.specs.Area.{at, fourOf};
-ghost use Rattle.projections.specs.Fours.{InFours};
-ghost use Rattle.confidences.specs.Confidences.{projectValues};
-ghost use Rattle.confidences.specs.Values.{frontOf, Projects, Sums, ProjectsFour, fourProjected, fourHeard};
+ghost use Rattle.confidences.specs.Values.{frontOf, Sums, ProjectsFour, fourProjected, fourHeard};
 ghost use Rattle.value_steps.specs.Pairs.{ValuePair, ValueBlocks, pairJoint};
-ghost use Rattle.value_steps.specs.Shares.{FourSays, FourHears, fourSaid, fourPlaces, Addends};
+ghost use Rattle.value_steps.specs.Shares.{Says, FourSays, FourHears, fourSaid, fourPlaces, voicesOf, wordsAt, Addends};
 
 // ---- projections
 
@@ -39,22 +37,7 @@ fn join_four(area: &mut [i32], c: usize, p: usize, z: usize, l: usize)
     area::put_four(area, c, x0, x1, x2, x3);
 }
 
-// The projection by w + l, written from c on.
-fn project_digits(m: usize, h: usize, w: usize, l: usize, c: usize, area: &mut [i32])
-    requires { ⌜ InFours h w l ⌝ }
-    requires { ⌜ Projects m (w + l) c (now area) ⌝ }
-    ensures { λ _. ⌜ Written (pos 0) c (2 ^ m) (at (projectValues m (w + l) (frontOf (2 ^ suc m) (now (area .entry))))) (now (area .entry)) (now (area .exit)) ⌝ }
-{
-    let n = words::size(m);
-    let mut q = 0;
-    while q != n {
-        let p = insert_zero(h, q);
-        join_four(area, c + q, p, p ^ w, l);
-        q += 4;
-    }
-}
-
-// The four projections, one after the other.
+// The four projections: a turn makes four entries of each.
 pub fn project_four(m: usize, k: usize, area: &mut [i32])
     requires { ⌜ ProjectsFour m k (now area) ⌝ }
     ensures { λ _. ⌜ Written (pos 0) (4 * 2 ^ m) (4 * 2 ^ m) (fourProjected m k (frontOf (2 ^ suc m) (now (area .entry)))) (now (area .entry)) (now (area .exit)) ⌝ }
@@ -62,13 +45,36 @@ pub fn project_four(m: usize, k: usize, area: &mut [i32])
     let n = words::size(m);
     let w = 4 * k;
     let h = highest_bit(w);
-    project_digits(m, h, w, 0, 4 * n, area);
-    project_digits(m, h, w, 1, 5 * n, area);
-    project_digits(m, h, w, 2, 6 * n, area);
-    project_digits(m, h, w, 3, 7 * n, area);
+    let mut q = 0;
+    while q != n {
+        let p = insert_zero(h, q);
+        let z = p ^ w;
+        join_four(area, 4 * n + q, p, z, 0);
+        join_four(area, 5 * n + q, p, z, 1);
+        join_four(area, 6 * n + q, p, z, 2);
+        join_four(area, 7 * n + q, p, z, 3);
+        q += 4;
+    }
 }
 
 // ---- shares
+
+// Which of four directions have a word; the others abstain.
+pub struct Voices {
+    pub a: bool,
+    pub b: bool,
+    pub c: bool,
+    pub d: bool,
+}
+
+// What stands at o, by the sign at c, of a direction that has a word; 0 of one that abstains.
+fn voiced(w: bool, area: &[i32], c: usize, o: usize) -> i32
+    requires { ⌜ Says c o (now area) ⌝ }
+    ensures { λ r. ⌜ r ≡ Rattle.value_steps.specs.Shares.voiced w (at (now (area .entry)) c) (at (now (area .entry)) o) ⌝ }
+{
+    let t = said(area, c, o);
+    if w { t } else { 0 }
+}
 
 // What the four directions say of place i of a block, the other members in the block at o: their signs stand n apart from c on, and those that
 // count are at i, s1, s2 and s3.
@@ -81,15 +87,16 @@ fn heard(
     s1: usize,
     s2: usize,
     s3: usize,
+    v: Voices,
 ) -> i32
     requires { ⌜ FourSays n c o (now area) ⌝ }
     requires { ⌜ (i < 4) × (s1 < 4) × (s2 < 4) × (s3 < 4) ⌝ }
-    ensures { λ r. ⌜ r ≡ fourSaid (fourPlaces i s1 s2 s3) n c o (now (area .entry)) i ⌝ }
+    ensures { λ r. ⌜ r ≡ fourSaid (voicesOf v) (fourPlaces i s1 s2 s3) n c o (now (area .entry)) i ⌝ }
 {
-    let t0 = said(area, c + i, o + i);
-    let t1 = said(area, c + n + s1, o + (i ^ 1));
-    let t2 = said(area, c + 2 * n + s2, o + (i ^ 2));
-    let t3 = said(area, c + 3 * n + s3, o + (i ^ 3));
+    let t0 = voiced(v.a, area, c + i, o + i);
+    let t1 = voiced(v.b, area, c + n + s1, o + (i ^ 1));
+    let t2 = voiced(v.c, area, c + 2 * n + s2, o + (i ^ 2));
+    let t3 = voiced(v.d, area, c + 3 * n + s3, o + (i ^ 3));
     t0 + t1 + t2 + t3
 }
 
@@ -106,34 +113,34 @@ fn add_four(area: &mut [i32], r: usize, v0: i32, v1: i32, v2: i32, v3: i32)
 }
 
 // Adds to the sums from r on what the four directions say of the representatives, the other members in the block at o.
-fn hear_four(area: &mut [i32], n: usize, c: usize, o: usize, r: usize)
+fn hear_four(area: &mut [i32], n: usize, c: usize, o: usize, r: usize, v: Voices)
     requires { ⌜ FourHears n c o r (now area) ⌝ }
-    ensures { λ _. ⌜ Written (pos 0) r 4 (λ i. at (now (area .entry)) (r + i) +ℤ fourSaid (λ _. i) n c o (now (area .entry)) i) (now (area .entry)) (now (area .exit)) ⌝ }
+    ensures { λ _. ⌜ Written (pos 0) r 4 (λ i. at (now (area .entry)) (r + i) +ℤ fourSaid (voicesOf v) (λ _. i) n c o (now (area .entry)) i) (now (area .entry)) (now (area .exit)) ⌝ }
 {
-    let v0 = heard(area, n, c, o, 0, 0, 0, 0);
-    let v1 = heard(area, n, c, o, 1, 1, 1, 1);
-    let v2 = heard(area, n, c, o, 2, 2, 2, 2);
-    let v3 = heard(area, n, c, o, 3, 3, 3, 3);
+    let v0 = heard(area, n, c, o, 0, 0, 0, 0, v);
+    let v1 = heard(area, n, c, o, 1, 1, 1, 1, v);
+    let v2 = heard(area, n, c, o, 2, 2, 2, 2, v);
+    let v3 = heard(area, n, c, o, 3, 3, 3, 3, v);
     add_four(area, r, v0, v1, v2, v3);
 }
 
 // And of the other members: place i is in coset i XOR l of direction l.
-fn hear_others(area: &mut [i32], n: usize, c: usize, o: usize, r: usize)
+fn hear_others(area: &mut [i32], n: usize, c: usize, o: usize, r: usize, v: Voices)
     requires { ⌜ FourHears n c o r (now area) ⌝ }
-    ensures { λ _. ⌜ Written (pos 0) r 4 (λ i. at (now (area .entry)) (r + i) +ℤ fourSaid (bitXor i) n c o (now (area .entry)) i) (now (area .entry)) (now (area .exit)) ⌝ }
+    ensures { λ _. ⌜ Written (pos 0) r 4 (λ i. at (now (area .entry)) (r + i) +ℤ fourSaid (voicesOf v) (bitXor i) n c o (now (area .entry)) i) (now (area .entry)) (now (area .exit)) ⌝ }
 {
-    let v0 = heard(area, n, c, o, 0, 1, 2, 3);
-    let v1 = heard(area, n, c, o, 1, 0, 3, 2);
-    let v2 = heard(area, n, c, o, 2, 3, 0, 1);
-    let v3 = heard(area, n, c, o, 3, 2, 1, 0);
+    let v0 = heard(area, n, c, o, 0, 1, 2, 3, v);
+    let v1 = heard(area, n, c, o, 1, 0, 3, 2, v);
+    let v2 = heard(area, n, c, o, 2, 3, 0, 1, v);
+    let v3 = heard(area, n, c, o, 3, 2, 1, 0, v);
     add_four(area, r, v0, v1, v2, v3);
 }
 
-// Adds to each place's sum what the four directions say of it, by the signs that stand where their projections were.
-pub fn share_four(m: usize, k: usize, area: &mut [i32])
+// Adds to each place's sum what those of the four directions that have a word say of it, by the signs that stand where their projections were.
+pub fn share_some(m: usize, k: usize, v: Voices, area: &mut [i32])
     requires { ⌜ ProjectsFour m k (now area) ⌝ }
     requires { ⌜ Sums (2 ^ suc m) (now area) ⌝ }
-    ensures { λ _. ⌜ Written (pos 0) (2 ^ suc m) (2 ^ suc m) (λ p. at (now (area .entry)) (2 ^ suc m + p) +ℤ fourHeard m k (now (area .entry)) p) (now (area .entry)) (now (area .exit)) ⌝ }
+    ensures { λ _. ⌜ Written (pos 0) (2 ^ suc m) (2 ^ suc m) (λ p. at (now (area .entry)) (2 ^ suc m + p) +ℤ wordsAt m k (voicesOf v) (now (area .entry)) p) (now (area .entry)) (now (area .exit)) ⌝ }
 {
     let n = words::size(m);
     let w = 4 * k;
@@ -142,8 +149,33 @@ pub fn share_four(m: usize, k: usize, area: &mut [i32])
     while q != n {
         let p = insert_zero(h, q);
         let z = p ^ w;
-        hear_four(area, n, 4 * n + q, z, 2 * n + p);
-        hear_others(area, n, 4 * n + q, p, 2 * n + z);
+        hear_four(area, n, 4 * n + q, z, 2 * n + p, v);
+        hear_others(area, n, 4 * n + q, p, 2 * n + z, v);
+        q += 4;
+    }
+}
+
+// The same where all four have a word: a literal, of which the compiler drops the tests.
+pub fn share_four(m: usize, k: usize, area: &mut [i32])
+    requires { ⌜ ProjectsFour m k (now area) ⌝ }
+    requires { ⌜ Sums (2 ^ suc m) (now area) ⌝ }
+    ensures { λ _. ⌜ Written (pos 0) (2 ^ suc m) (2 ^ suc m) (λ p. at (now (area .entry)) (2 ^ suc m + p) +ℤ fourHeard m k (now (area .entry)) p) (now (area .entry)) (now (area .exit)) ⌝ }
+{
+    let n = words::size(m);
+    let w = 4 * k;
+    let h = highest_bit(w);
+    let v = Voices {
+        a: true,
+        b: true,
+        c: true,
+        d: true,
+    };
+    let mut q = 0;
+    while q != n {
+        let p = insert_zero(h, q);
+        let z = p ^ w;
+        hear_four(area, n, 4 * n + q, z, 2 * n + p, v);
+        hear_others(area, n, 4 * n + q, p, 2 * n + z, v);
         q += 4;
     }
 }

@@ -23,7 +23,7 @@ module _ {A : Type 0} {f : List A → List A} {s : ℕ} (k : Keeps f s) where
   first-length : (a : List A) → s ≤ length a → length (f (take s a)) ≡ s
   first-length a l = k .keeps (take s a) (length-take-le s a l)
 
-  length-blocks : (n : ℕ) (a : List A) → n * s ≤ length a → length (blocks f s n a) ≡ length a
+  pub length-blocks : (n : ℕ) (a : List A) → n * s ≤ length a → length (blocks f s n a) ≡ length a
   unfolding blocks
   length-blocks zero a l = refl
   length-blocks (suc n) a l =

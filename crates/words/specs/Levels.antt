@@ -103,7 +103,7 @@ module _ {A : Type 0} (R : Rule A) where
       pub transformed-length : length a ≡ 2 ^ m
       transformed-length = t .done .size ∙ e .size
 
-      transformed-room : (j : ℕ) → t .exponent + j ≤ m → Roomy R j a
+      pub transformed-room : (j : ℕ) → t .exponent + j ≤ m → Roomy R j a
       transformed-room j l = rw (t .done .done) (blocks-room (t .exponent) (t .done .count) (less-room R (e .room) (t .exponent + j) l))
 
       pub transformed-all : length a ≤ h → a ≡ halved R m x

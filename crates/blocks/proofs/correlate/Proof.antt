@@ -2,7 +2,7 @@
 use Prim.Native.Nat.{_-_}
 use lib.ListN.{take}
 use borrow.Author.Needs.{needs}
-use Rattle.correlations.specs.Begun.{EightsDone}
+use Rattle.correlations.specs.Begun.{Blockwise}
 use Rattle.blocks.specs.Blocks.{quadsOf}
 use Rattle.blocks.proofs.Loads.{eights-done, correlated}
 use Rattle.blocks.proofs.correlate.Statement.{statement}
@@ -25,7 +25,7 @@ part-levels-end c = search needs
 
 -- what the levels are lent
 eights : (c : tie.After-size) → let s = c .before .before .before .before .before .args in
-    EightsDone (s .k) (quadsOf (s .k) (s .word .now)) (take (c .size .result - 0) (c .before .before .load .last .1 .1 .0))
+    Blockwise 8 (s .k) (quadsOf (s .k) (s .word .now)) (take (c .size .result - 0) (c .before .before .load .last .1 .1 .0))
 eights c =
     let b = c .before .before .before .before .before .pre in
     eights-done _ _ (b .some) (b .few) (c .before .before .load .ensures) (c .size .ensures)

@@ -8,15 +8,15 @@ use lib.ListN.{length}
 use Rattle.words.specs.Butterflies.{Entries}
 use Rattle.words.specs.Levels.{Transformed, transformed-length, transformed-all, next-level, level-done}
 use Rattle.hadamard.specs.Transform.{sums, summable-entries, halved-correlation}
-use Rattle.correlations.specs.Begun.{EightsDone}
+use Rattle.correlations.specs.Begun.{Blockwise}
 use Rattle.correlations.proofs.levels.Statement.{statement}
 use Rattle.correlations.proofs.levels.Tie as tie
 
 abbrev Inv-loop : tie.InvT-loop
-Inv-loop a₀ h₀ a h = (m : ℕ) (x : List ℤ) → Entries sums (2 ^ m) m x → Transformed sums m 8 x a₀ → Transformed sums m h x a
+Inv-loop a₀ first h₀ a h = (m : ℕ) (x : List ℤ) → Entries sums (2 ^ m) m x → Transformed sums m first x a₀ → Transformed sums m h x a
 
 abbrev μ-loop : tie.MeasureT-loop
-μ-loop a₀ h₀ a h = length a₀ - h
+μ-loop a₀ first h₀ a h = length a₀ - h
 
 entries : (s : tie.Start Inv-loop μ-loop) → Entries sums (2 ^ s .pre .exponent) (s .pre .exponent) (s .pre .from)
 entries s = summable-entries (s .pre .done .summable)
@@ -25,8 +25,8 @@ abbrev start : tie.At-loop Inv-loop μ-loop → tie.Start Inv-loop μ-loop
 start c = c .before
 
 loop-done : (c : tie.At-loop Inv-loop μ-loop) → let s = start c in
-    (m : ℕ) (x : List ℤ) → EightsDone m x (s .args .a .now) → Transformed sums m (c .loop .h) x (c .loop .a)
-loop-done c m x d = c .loop .inv m x (summable-entries (d .summable)) (d .eights)
+    (m : ℕ) (x : List ℤ) → Blockwise (s .args .first) m x (s .args .a .now) → Transformed sums m (c .loop .h) x (c .loop .a)
+loop-done c m x d = c .loop .inv m x (summable-entries (d .summable)) (d .transformed)
 
 -- of those that the caller named
 named : (c : tie.At-loop Inv-loop μ-loop) → let s = start c in
@@ -34,7 +34,7 @@ named : (c : tie.At-loop Inv-loop μ-loop) → let s = start c in
 named c = loop-done c _ _ (start c .pre .done)
 
 same : (c : tie.At-loop Inv-loop μ-loop) → length (c .loop .a) ≡ length (start c .args .a .now)
-same c = transformed-length sums (entries (start c)) (named c) ∙ sym (transformed-length sums (entries (start c)) (start c .pre .done .eights))
+same c = transformed-length sums (entries (start c)) (named c) ∙ sym (transformed-length sums (entries (start c)) (start c .pre .done .transformed))
 
 loop-holds : tie.Need-loop-holds Inv-loop μ-loop
 loop-holds c = λ m x e t. t

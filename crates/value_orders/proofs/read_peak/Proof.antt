@@ -1,4 +1,4 @@
--- `value_orders::read_peak` meets its contract: the peak decides, and its codeword is left. Assumes nothing.
+-- `value_orders::read_peak` meets its contract: the peak decides, and its codeword is left by its signs. Assumes nothing.
 use mathlib.Core.Path.{_∙_}
 use native.Mathlib.Omega.{arith}
 use lib.Pow.{pow-mono}
@@ -8,7 +8,7 @@ use Rattle.area.specs.Area.{at}
 use Rattle.area.specs.AreaLaws.{bit-back}
 use Rattle.peaks.specs.Found.{peak-below}
 use Rattle.order_one.specs.OrderOne.{peak-bit}
-use Rattle.value_orders.specs.SignLaws.{bits-tie, bits-word}
+use Rattle.value_orders.specs.SignLaws.{leaf-tie, leaf-word}
 use Rattle.value_orders.proofs.read_peak.Statement.{statement}
 use Rattle.value_orders.proofs.read_peak.Tie as tie
 
@@ -26,16 +26,19 @@ returns : tie.Need-returns
 returns c =
     let f = c .before .before .before in
     let a = start f .args in
-    bits-tie (a .m) (at (a .part .now)) (f .find-peak .ensures) (not-true _ (c .if1 .taken))
+    leaf-tie (a .m) (at (a .part .now)) (f .find-peak .ensures) (not-true _ (c .if1 .taken))
 
-write-affine-requires : tie.Need-write-affine-requires
-write-affine-requires c κs =
+write-signs-requires : tie.Need-write-signs-requires
+write-signs-requires c κs =
     let e = c .before .before in
     let f = e .before .before .before in
     let a = start f .args in
     let alone = not-false _ (e .if1 .left) in
-    let bit = peak-bit (a .m) (at (a .part .now)) (f .find-peak .ensures) alone in
-    (rw (bit-back bit) bit, omega (arith, peak-below (f .find-peak .ensures) alone, pow-mono {j = 10} (start f .pre .1)))
+    let bit = peak-bit (a .m) (at (a .part .now)) (f .find-peak .ensures) alone in (
+      rw (bit-back bit) bit,
+      omega (arith, peak-below (f .find-peak .ensures) alone, pow-mono {j = 10} (start f .pre .1)),
+      record { exponent = a .m; power = f .find-peak .kept .1 .0 ∙ start f .pre .2 },
+    )
 
 same-length-2 : tie.Need-same-length-2
 same-length-2 c = search needs
@@ -46,8 +49,8 @@ returns-2 c =
     let e = w .before .before .before in
     let f = e .before .before .before in
     let a = start f .args in
-    bits-word (a .m) (at (a .part .now)) (f .find-peak .ensures) (not-false _ (e .if1 .left)) (f .find-peak .kept .1 .0 ∙ start f .pre .2)
-    (w .write-affine .ensures)
+    leaf-word (a .m) (at (a .part .now)) (f .find-peak .ensures) (not-false _ (e .if1 .left)) (f .find-peak .kept .1 .0 ∙ start f .pre .2)
+    (w .write-signs .ensures)
 
 pub read-peak-spec : {M : Type 1} → statement M
-read-peak-spec = tie.close (tie.spec find-peak-requires same-length returns write-affine-requires same-length-2 returns-2)
+read-peak-spec = tie.close (tie.spec find-peak-requires same-length returns write-signs-requires same-length-2 returns-2)

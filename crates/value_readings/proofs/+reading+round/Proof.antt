@@ -14,10 +14,10 @@ use Rattle.words.proofs.size.Reads as size-reads
 use Rattle.value_orders.proofs.ends.finish.Reads as finish-reads
 use Rattle.value_orders.proofs.first_order.Reads as first-order-reads
 use Rattle.value_orders.proofs.zero_order.Reads as zero-order-reads
-use Rattle.value_rounds.proofs.answers.hear_answer.Reads as hear-answer-reads
-use Rattle.value_rounds.proofs.ends.clear.Reads as clear-reads
-use Rattle.value_rounds.proofs.ends.conclude.Reads as conclude-reads
-use Rattle.value_rounds.proofs.leaf_round.Reads as leaf-round-reads
+use Rattle.value_readings.proofs.rounds.answers.hear_answer.Reads as hear-answer-reads
+use Rattle.value_readings.proofs.rounds.ends.clear.Reads as clear-reads
+use Rattle.value_readings.proofs.rounds.ends.conclude.Reads as conclude-reads
+use Rattle.value_readings.proofs.rounds.leaf_round.Reads as leaf-round-reads
 use Rattle.value_steps.proofs.project.Reads as project-reads
 use Rattle.value_readings.proofs.Directions.{Round, From, Progress, Lent, Came, progress-none, next-projects, lent-ready, came-asks, heard-over, heard-few, heard-absent, heard-more, last-asks, last-renewed}
 use Rattle.value_readings.proofs.Turns.{Turn, read-zero, read-one, read-none, turn-first, turn-ready, turn-exhausted, turn-few, turn-more, turn-last, leaf-lower, ready-rounded}

@@ -1,52 +1,76 @@
--- `value_orders::pairs::search` meets its contract: the greatest size and its key lead to the peak. Assumes nothing.
-use Prim.Native.Nat.{_+_, _%_, _<_}
-use mathlib.Core.Path.{refl, ap, _∙_}
+-- `value_orders::pairs::search` meets its contract: the last and the first place of the greatest size lead to the peak. Assumes nothing.
+use Prim.Native.Nat.{ℕ, _+_, _-_, _%_, _<_}
+use mathlib.Core.Path.{_≡_, refl, sym, ap, _∙_}
 use native.Mathlib.Omega.{arith}
-use lib.IntN.{natAbs}
+use lib.IntN.{natAbs, pos}
+use lib.Signed.{remZ}
 use borrow.Author.Needs.{needs}
+use Rattle.words.specs.Sum.{greatestBelow}
 use Rattle.area.specs.Area.{at}
-use Rattle.peaks.specs.Peaks.{keysBelow}
-use Rattle.peaks.specs.Found.{Searched, searched-many, searched-peak, searched-place}
-use Rattle.peaks.specs.Stored.{as-it-is, size-whole, peak-as}
+use Rattle.area.specs.Numbers.{stored}
+use Rattle.peaks.specs.Stored.{peak-as}
 use Rattle.value_orders.specs.Leaves.{pairSizes}
+use Rattle.value_orders.specs.Places.{downKey, lastPlace, firstPlace, last-below, places-apart, places-meet}
 use Rattle.value_orders.specs.PairLaws.{first-read, second-read}
+use Rattle.value_orders.specs.KeyLaws.{quotient-fits, rest-casts, rest-is}
 use Rattle.value_orders.proofs.pairs.search.Statement.{statement}
 use Rattle.value_orders.proofs.pairs.search.Tie as tie
 
--- the greatest and its key
-told : (c : tie.After-keys) → let a = c .before .before .args in
-    Searched (a .h) (at (a .part .now)) (λ i. at (a .part .now) (a .h + i)) (c .keys .result)
-told c =
-    let g = c .before in
-    let s = g .before in
-    record {
-      some = s .pre .some;
-      few = s .pre .few;
-      keys =
-          (rw (as-it-is (g .greatest .ok)) at (c .keys .ensures))
-          ∙ ap (keysBelow (s .args .h) (pairSizes (s .args .h) (s .args .part .now))) (ap natAbs (g .greatest .ensures));
-    }
+-- ---- the places
 
-below : (c : tie.Else1) → c .before .keys .result % 65536 < c .before .before .before .args .h
-below c = searched-place (told (c .before)) (c .if1 .left)
+abbrev j-of : tie.After-struct-told → ℕ
+j-of c = natAbs (stored (remZ (stored (c .before .before .ends .result .last)) (pos 512)))
 
-greatest-requires : tie.Need-greatest-requires
-greatest-requires c κs = search needs
+j-is : (c : tie.After-struct-told) → let a = c .before .before .before .args in j-of c ≡ lastPlace (a .h) (pairSizes (a .h) (a .part .now))
+j-is c = rest-is (c .before .before .ends .ensures .0) (c .struct-told .given .0 .1)
 
-keys-requires : tie.Need-keys-requires
-keys-requires c κs = (c .before .pre, size-whole (c .greatest .ensures) (c .greatest .ok))
+j-below : (c : tie.After-struct-told) → j-of c < c .before .before .before .args .h
+j-below c = let s = c .before .before .before in rw (j-is c) (last-below (s .args .h) _ (s .pre .some) (s .pre .few))
 
-returns : tie.Need-returns
-returns c = searched-many (told (c .before)) (c .if1 .taken) refl
+-- what the first place leaves to 511
+abbrev left-of : tie.After-struct-told2 → ℕ
+left-of c = natAbs (stored (remZ (stored (c .before .before .before .before .ends .result .first)) (pos 512)))
+
+left-is : (c : tie.After-struct-told2) → let a = c .before .before .before .before .before .args in
+    left-of c ≡ greatestBelow (a .h) (downKey (pairSizes (a .h) (a .part .now))) % 512
+left-is c = rest-is (c .before .before .before .before .ends .ensures .1) (c .struct-told2 .given .1 .0 .1)
+
+i-is : (c : tie.After-struct-told2) → let a = c .before .before .before .before .before .args in
+    511 - left-of c ≡ firstPlace (a .h) (pairSizes (a .h) (a .part .now))
+i-is c = ap (λ (n : ℕ). 511 - n) (left-is c)
+
+-- ---- the needs
+
+ends-requires : tie.Need-ends-requires
+ends-requires c κs = search needs
+
+rem-j : tie.Need-rem-j
+rem-j c = (omega arith, quotient-fits (c .before .before .ends .ensures .0) (c .struct-told .given .0 .1))
 
 cast-j : tie.Need-cast-j
-cast-j c = search needs
+cast-j c = rest-casts (c .before .before .ends .ensures .0) (c .struct-told .given .0 .1)
+
+rem-i : tie.Need-rem-i
+rem-i c = (omega arith, quotient-fits (c .before .before .before .before .ends .ensures .1) (c .struct-told2 .given .1 .0 .1))
+
+cast-i : tie.Need-cast-i
+cast-i c = rest-casts (c .before .before .before .before .ends .ensures .1) (c .struct-told2 .given .1 .0 .1)
+
+sub-i : tie.Need-sub-i
+sub-i c = omega (arith, left-is c)
+
+returns : tie.Need-returns
+returns c =
+    let t = c .before .before .before in
+    let s = t .before .before .before in
+    let x = at (s .args .part .now) in
+    places-apart x (λ i. x (s .args .h + i)) (s .pre .some) (s .pre .few) (λ e. c .if1 .taken (i-is (c .before) ∙ e ∙ sym (j-is t))) refl
 
 mul-x : tie.Need-mul-x
 mul-x c = search needs
 
 shared-slice-copy-out-x : tie.Need-shared-slice-copy-out-x
-shared-slice-copy-out-x c = omega (arith, below c, c .before .before .before .pre .size)
+shared-slice-copy-out-x c = let t = c .before .before .before in omega (arith, j-below t, t .before .before .before .pre .size)
 
 add-y : tie.Need-add-y
 add-y c = search needs
@@ -55,7 +79,7 @@ mul-y : tie.Need-mul-y
 mul-y c = search needs
 
 shared-slice-copy-out-y : tie.Need-shared-slice-copy-out-y
-shared-slice-copy-out-y c = omega (arith, below (c .before), c .before .before .before .before .pre .size)
+shared-slice-copy-out-y c = let t = c .before .before .before .before in omega (arith, j-below t, t .before .before .before .pre .size)
 
 add-peak-at : tie.Need-add-peak-at
 add-peak-at c = search needs
@@ -65,18 +89,25 @@ peak-at-requires c κs = search needs
 
 returns-2 : tie.Need-returns-2
 returns-2 c =
-    let e = c .before .before .before in
-    let k = e .before .before .before .pre in
-    searched-peak (told (e .before)) (e .if1 .left) (peak-as (first-read k (below e)) (second-read k (below e)) (c .peak-at .ensures))
+    let o = c .before .before .before in
+    let t = o .before .before .before in
+    let s = t .before .before .before in
+    let x = at (s .args .part .now) in
+    let below = j-below t in
+    places-meet x (λ i. x (s .args .h + i)) (s .pre .some) (s .pre .few) (j-is t) (sym (i-is (o .before)) ∙ o .if1 .left)
+    (peak-as (first-read (s .pre) below) (second-read (s .pre) below) (c .peak-at .ensures))
 
 pub search-spec : {M : Type 1} → statement M
 search-spec =
     tie.close
     (tie.spec
-    greatest-requires
-    keys-requires
-    returns
+    ends-requires
+    rem-j
     cast-j
+    rem-i
+    cast-i
+    sub-i
+    returns
     mul-x
     shared-slice-copy-out-x
     add-y

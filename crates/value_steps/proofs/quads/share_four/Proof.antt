@@ -1,25 +1,25 @@
--- `value_steps::quads::share_four` meets its contract: a turn adds at both members of four cosets of each direction. Assumes nothing.
-use Prim.Native.Nat.{suc, _+_, _-_, _*_, _%_, _^_, _≤_}
-use mathlib.Core.Path.{_≡_}
+-- `value_steps::quads::share_four` meets its contract: that of `share_some`, with four words. Assumes nothing.
+use Prim.Native.Nat.{suc, _+_, _-_, _*_, _^_}
+use mathlib.Core.Path.{ap}
+use mathlib.Core.Bool.{true}
 use native.Mathlib.Omega.{arith}
 use lib.Bits.{bitXor}
-use lib.IntN.{_+ℤ_}
+use lib.IntN.{ℤ, _+ℤ_}
 use borrow.Author.Needs.{needs}
+use Rattle.words.specs.Written.{written-as}
 use Rattle.area.specs.Area.{at}
 use Rattle.area.specs.Places.{index-fits}
-use Rattle.confidences.specs.Values.{fourHeard}
-use Rattle.value_steps.proofs.Turns.{word-asks, SetBelow, set-none, set-all}
-use Rattle.value_steps.proofs.FourTurns.{four-number-le, four-some, four-small, four-turn}
-use Rattle.value_steps.proofs.FourShareTurns.{FourShare, Rooms, number, rooms, first-asks, second-asks, share-more}
+use Rattle.value_steps.specs.Shares.{fourWords, all-heard}
+use Rattle.value_steps.proofs.FourTurns.{four-number-le, four-some, four-small}
+use Rattle.value_steps.proofs.FourShareTurns.{FourShare, Rooms, Sharing, number, rooms, first-asks, second-asks, share-none, share-more, share-all}
 use Rattle.value_steps.proofs.quads.share_four.Statement.{statement}
 use Rattle.value_steps.proofs.quads.share_four.Tie as tie
 
 abbrev Inv-loop : tie.InvT-loop
-Inv-loop m k area₀ n w h q₀ area q =
-    (q ≤ 2 ^ m) × (q % 4 ≡ 0) × SetBelow m (4 * k) (λ p. at area₀ (2 ^ suc m + p) +ℤ fourHeard m k area₀ p) area₀ q area
+Inv-loop m k area₀ n w h v q₀ area q = Sharing m k (fourWords true true true true) area₀ q area
 
 abbrev μ-loop : tie.MeasureT-loop
-μ-loop m k area₀ n w h q₀ area q = 2 ^ m - q
+μ-loop m k area₀ n w h v q₀ area q = 2 ^ m - q
 
 size-requires : tie.Need-size-requires Inv-loop μ-loop
 size-requires c κs = search needs
@@ -31,7 +31,7 @@ highest-bit-requires : tie.Need-highest-bit-requires Inv-loop μ-loop
 highest-bit-requires c κs = (four-some (c .before .pre .0), four-small (c .before .pre .0))
 
 loop-holds : tie.Need-loop-holds Inv-loop μ-loop
-loop-holds c = (omega arith, omega arith, set-none _ _ _ _)
+loop-holds c = share-none _ _ _ _
 
 insert-zero-requires : tie.Need-insert-zero-requires Inv-loop μ-loop
 insert-zero-requires c κs = (omega (arith, c .before .before .highest-bit .ensures .1), omega (arith, four-number-le (c .before .before .before .before .pre .0)))
@@ -41,19 +41,21 @@ start c = c .before .before .before .before .before
 
 -- this turn
 turn : (c : tie.After-insert-zero Inv-loop μ-loop)
-    → FourShare (start c .args .m) (start c .args .k) (start c .args .area .now)
+    → FourShare (start c .args .m) (start c .args .k) (fourWords true true true true) (start c .args .area .now)
     (c .before .before .before .before .size .result) (c .before .before .before .highest-bit .result) (c .before .before .loop .q) (c .insert-zero .result) (c .before .before .loop .area)
 turn c = record {
   asks = start c .pre .0;
   sums = start c .pre .1;
   size = c .before .before .before .before .size .ensures;
-  turn = λ l hl. four-turn (start c .pre .0) l hl (c .before .before .before .highest-bit .ensures .0) (omega arith) (c .before .before .loop .inv .1) (c .insert-zero .ensures .0);
-  so-far = c .before .before .loop .inv .2;
+  top = c .before .before .before .highest-bit .ensures .0;
+  below = omega arith;
+  inserted = c .insert-zero .ensures .0;
+  before = c .before .before .loop .inv;
 }
 
 places : (c : tie.After-insert-zero Inv-loop μ-loop)
     → Rooms (c .before .before .before .before .size .result) (c .before .before .loop .q) (c .insert-zero .result) (bitXor (c .insert-zero .result) (4 * start c .args .k))
-places c = rooms (turn c) (start c .good .1 .1 .0 .1)
+places c = let s = start c in rooms (turn c) (s .good .1 .1 .0 .1)
 
 mul-hear-four : tie.Need-mul-hear-four Inv-loop μ-loop
 mul-hear-four c = places (c .before) .four
@@ -92,17 +94,16 @@ loop-less : tie.Need-loop-less Inv-loop μ-loop
 loop-less c = omega (arith, number (turn (c .before .before .before .before .before .before)))
 
 loop-again : tie.Need-loop-again Inv-loop μ-loop
-loop-again c =
-    let t = turn (c .before .before .before .before .before .before) in
-    (omega (arith, number t), omega (arith, c .before .before .before .before .before .before .before .before .loop .inv .1), share-more t (c .before .before .before .before .hear-four .ensures) (c .before .hear-others .ensures))
+loop-again c = share-more (turn (c .before .before .before .before .before .before)) (c .before .before .before .before .hear-four .ensures) (c .before .hear-others .ensures)
 
 same-length : tie.Need-same-length Inv-loop μ-loop
-same-length c = c .before .loop .inv .2 .long
+same-length c = c .before .loop .inv .so-far .long
 
 returns : tie.Need-returns Inv-loop μ-loop
 returns c =
-    let s = c .before .before .before .before in
-    set-all (word-asks _ _ (s .pre .0 .few) (four-some (s .pre .0)) (s .pre .0 .under)) (c .before .loop .inv .2) (omega arith)
+    let a = c .before .before .before .before .args in
+    written-as (share-all (c .before .before .before .before .pre .0) (c .before .loop .inv) (omega arith)) _
+    (λ p l. ap (λ (z : ℤ). at (a .area .now) (2 ^ suc (a .m) + p) +ℤ z) (all-heard (a .m) (a .k) (a .area .now) p))
 
 pub share-four-spec : {M : Type 1} → statement M
 share-four-spec =
