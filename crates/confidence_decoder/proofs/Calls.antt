@@ -29,7 +29,7 @@ use Rattle.table_decoder.specs.TableLaws.{entry-passes, slot-says}
 use Rattle.confidences.specs.AlikeLaws.{profile-limits, profile-none, table-limits, table-none}
 use Rattle.confidences.specs.Answers.{DecodesValues, confidenceCall, confidenceProfileCall, confidenceTableCall, lowestOutside, valueChecks, valuePlace}
 use Rattle.confidences.specs.Range.{range-tested}
-use Rattle.value_checks.specs.Checked.{CheckedValues, outsidePlace}
+use Rattle.confidence_decoder.specs.Checked.{CheckedValues, outsidePlace}
 use Rattle.confidence_decoder.specs.Runs.{RunsValues}
 
 -- ---- the checks

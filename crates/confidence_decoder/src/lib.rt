@@ -12,6 +12,7 @@ use tables::Table;
 mod answers;
 pub mod both;
 mod runs;
+mod value_checks;
 
 // Decodes confidences under the limits given.
 pub fn decode_confidences(

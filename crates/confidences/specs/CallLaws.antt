@@ -27,7 +27,7 @@ use Rattle.rule.specs.Reading.{Outcome, accepted, leavesOf, refused}
 use Rattle.confidences.specs.Alike.{RightRoom}
 use Rattle.confidences.specs.Answers.{confidenceCall, confidenceProfileCall, confidenceTableCall, lowestOutside, valueChecks, valuePlace}
 use Rattle.confidences.specs.Confidences.{negated, reading, signsOf, zeroPlace}
-use Rattle.confidences.specs.Counts.{Noise, fullLeaves, noise-by, reading-erased, reading-leaf, reading-leaves, reading-most, reading-noise}
+use Rattle.confidences.specs.Counts.{ByNoise, fullLeaves, noise-by, reading-erased, reading-leaf, reading-leaves, reading-most, reading-noise}
 use Rattle.confidences.specs.Likeness.{negated-block, outside-like, reading-in, reading-like, signs-like, zeroPlace-like}
 use Rattle.confidences.specs.Rounds.{IsBlock, Nonzero, signs-word}
 
@@ -37,7 +37,7 @@ refusal-shift : (c : List ℕ) (o : Outcome) → refusalOf (shift c o) ≡ refus
 refusal-shift c (accepted d k l) = refl
 refusal-shift c (refused e k l) = refl
 
-sound : (m r : ℕ) (o : Outcome) → CodewordIn m r o → Noise o → Sound m r o
+sound : (m r : ℕ) (o : Outcome) → CodewordIn m r o → ByNoise o → Sound m r o
 sound m r (accepted d k l) h n = h
 sound m r (refused e k l) h n = noise-by (λ (j : ℕ). 0 < j) (omega arith) (omega arith) (omega arith) e k l n
 
@@ -45,7 +45,7 @@ leaf-not-17 : (r : ℕ) (o : Outcome) → Leaf r o → refusalOf o ≡ 17 → �
 leaf-not-17 r (accepted d k l) h e = omega arith
 leaf-not-17 r (refused n k l) h e = omega (arith, h .0)
 
-noise-not-12 : (o : Outcome) → Noise o → Not12 o
+noise-not-12 : (o : Outcome) → ByNoise o → Not12 o
 noise-not-12 (accepted d k l) h e = omega arith
 noise-not-12 (refused n k l) h e = noise-by (λ (j : ℕ). j ≡ 12 → ⊥) (λ z. omega arith) (λ z. omega arith) (λ z. omega arith) n k l h e
 

@@ -44,23 +44,23 @@ reading-rounds (suc (suc r)) m limit x h =
     ended-cases m (suc (suc r)) _ limit _ (AllRounds limit) (λ z. (inl refl, refl)) (λ z e. refl) (λ z. (inr refl, refl))
 
 -- a refusal is 9, 11 or 17, and never 10
-abbrev pub Noise : Outcome → Type 0
-Noise (accepted d k l) = Unit {0}
-Noise (refused e k l) = (e ≡ 9) ⊎ ((e ≡ 11) ⊎ (e ≡ 17))
+abbrev pub ByNoise : Outcome → Type 0
+ByNoise (accepted d k l) = Unit {0}
+ByNoise (refused e k l) = (e ≡ 9) ⊎ ((e ≡ 11) ⊎ (e ≡ 17))
 
-leaf-noise : (r : ℕ) (o : Outcome) → Leaf r o → Noise o
+leaf-noise : (r : ℕ) (o : Outcome) → Leaf r o → ByNoise o
 leaf-noise r (accepted d k l) h = tt
 leaf-noise r (refused e k l) h = inl (h .0)
 
-pub reading-noise : (r m limit : ℕ) (x : List ℤ) → Noise (reading r m limit x)
+pub reading-noise : (r m limit : ℕ) (x : List ℤ) → ByNoise (reading r m limit x)
 unfolding reading
 reading-noise zero m limit x = leaf-noise 0 (reading 0 m limit x) (reading-leaf 0 m limit x (omega arith))
 reading-noise (suc zero) m limit x = leaf-noise 1 (reading 1 m limit x) (reading-leaf 1 m limit x (omega arith))
 reading-noise (suc (suc r)) m limit x =
-    ended-cases m (suc (suc r)) _ limit _ Noise (λ z. inr (inr refl)) (λ z e. tt) (λ z. inr (inl refl))
+    ended-cases m (suc (suc r)) _ limit _ ByNoise (λ z. inr (inr refl)) (λ z e. tt) (λ z. inr (inl refl))
 
 -- its number
-pub noise-by : (P : ℕ → Type 0) → P 9 → P 11 → P 17 → (e k l : ℕ) → Noise (refused e k l) → P e
+pub noise-by : (P : ℕ → Type 0) → P 9 → P 11 → P 17 → (e k l : ℕ) → ByNoise (refused e k l) → P e
 noise-by P a b c e k l n = ⊎-elim (λ q. rw q a) (λ z. ⊎-elim (λ q. rw q b) (λ q. rw q c) z) n
 
 -- ---- the leaf count

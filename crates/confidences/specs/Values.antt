@@ -11,6 +11,7 @@ use Rattle.words.specs.Word.{bit}
 use Rattle.area.specs.Area.{at}
 use Rattle.hadamard.specs.Correlation.{signed, constantOf}
 use Rattle.direction.specs.Direction.{cosetOf}
+use Rattle.direction.specs.Members.{IsDirection}
 use Rattle.confidences.specs.Confidences.{greatest, projectValues}
 
 -- the values in the first n numbers
@@ -28,9 +29,7 @@ pub record Sums (n : ℕ) (xs : List ℤ) : Type 0 where
 
 -- what direction b asks of the area: its projection goes to the 2^m numbers from c on, after the values and their sums
 pub record Projects (m b c : ℕ) (xs : List ℤ) : Type 0 where
-  pub few : m ≤ 9
-  pub some : 0 < b
-  pub under : b < 2 ^ suc m
+  pub direction : IsDirection m b
   pub beyond : 4 * 2 ^ m ≤ c
   pub room : c + 2 ^ m ≤ length xs
   pub values : Values (2 ^ suc m) xs
@@ -47,10 +46,8 @@ heardAt b c xs p = signed (constantOf (at xs (c + cosetOf b p))) (at xs (bitXor 
 
 -- what they ask of the area
 pub record ProjectsFour (m k : ℕ) (xs : List ℤ) : Type 0 where
-  pub few : m ≤ 9
+  pub direction : IsDirection m (4 * k)
   pub blocks : 2 ≤ m
-  pub some : 1 ≤ k
-  pub under : 4 * k < 2 ^ suc m
   pub room : 8 * 2 ^ m ≤ length xs
   pub values : Values (2 ^ suc m) xs
 

@@ -1,56 +1,29 @@
--- The loops over the cosets that add votes: their invariant, and a turn that adds the vote of coset q at both members. Assumes nothing.
-use Prim.Native.Nat.{ℕ, suc, _+_, _*_, _%_, _^_, _≤_, _<_}
+-- The loops over the cosets that add votes: a turn adds the vote of coset q at both members. Assumes nothing.
+use Prim.Native.Nat.{ℕ, suc, _+_, _*_, _%_, _^_, _<_}
 use mathlib.Core.Path.{_≡_, refl, sym, ap, _∙_}
 use mathlib.Core.List.{List}
-use mathlib.Core.Logic.{_≢_, ⊎-elim}
-use native.Mathlib.Decide.{ℕ-discrete}
-use native.Mathlib.Nat.{add-comm}
+use native.Mathlib.Nat.{add-comm, add-zero}
 use native.Mathlib.Omega.{arith}
-use lib.Bits.{bitXor, xor-self, xor-zero-l}
-use lib.ListN.{length, set, length-set}
-use lib.Seq.{getD-set-same, getD-set-other}
+use lib.Bits.{bitXor}
+use lib.ListN.{length, set}
 use lib.IntN.{ℤ, pos, natAbs, _+ℤ_}
 use mir.Syntax.{w32}
 use mir.Val.{SFits, toZ, ofZ}
 use Rattle.words.specs.Word.{bit}
-use Rattle.words.specs.Written.{Written}
-use Rattle.words.specs.Xor.{xor-assoc}
+use Rattle.words.specs.Written.{Written, written-none, written-more}
 use Rattle.area.specs.Area.{at, wordOf}
 use Rattle.area.specs.AreaLaws.{is-bit, xor-stored}
 use Rattle.area.specs.Numbers.{stored, Half, sum-fits, sum-stored}
 use Rattle.direction.specs.Direction.{cosetOf, project}
+use Rattle.direction.specs.Members.{Members, direction-lt, number-one, number-two}
 use Rattle.direction.specs.Projected.{word-project}
-use Rattle.direction.specs.Cosets.{coset-lt}
+use Rattle.cosets.specs.SetBelow.{Blocks, SetBelow, apart-after, still, two-runs, pair-blocks, set-more}
 use Rattle.cosets.specs.Votes.{Projects, Tally, InProjection, castVote}
-use Rattle.cosets.proofs.Turns.{Members, direction-lt, direction-top, pair-sum, number-one, number-two, only-members}
+use Rattle.cosets.proofs.Turns.{pair-sum}
 
 -- ys is xs with the votes of the cosets numbered below q
-pub record VotedBelow (m b : ℕ) (xs : List ℤ) (q : ℕ) (ys : List ℤ) : Type 0 where
-  pub long : length ys ≡ length xs
-  pub done : (p : ℕ) → p < 2 ^ suc m → cosetOf b p < q → at ys (2 ^ suc m + p) ≡ at xs (2 ^ suc m + p) +ℤ pos (castVote m b xs p)
-  pub ahead : (p : ℕ) → p < 2 ^ suc m → q ≤ cosetOf b p → at ys (2 ^ suc m + p) ≡ at xs (2 ^ suc m + p)
-  pub below : (p : ℕ) → p < 2 ^ suc m → at ys p ≡ at xs p
-  pub above : (p : ℕ) → 4 * 2 ^ m ≤ p → at ys p ≡ at xs p
-
--- before the first turn
-pub voted-none : (m b : ℕ) (xs : List ℤ) → VotedBelow m b xs 0 xs
-voted-none m b xs = record {
-  long = refl;
-  done = λ p l k. absurd (omega arith);
-  ahead = λ p l k. refl;
-  below = λ p l. refl;
-  above = λ p l. refl;
-}
-
--- after the last turn: every place is in a coset numbered below 2 ^ m
-pub voted-all : {m b q : ℕ} {xs ys : List ℤ} → Projects m b xs → VotedBelow m b xs q ys → 2 ^ m ≤ q
-    → Written (pos 0) (2 ^ suc m) (2 ^ suc m) (λ p. at xs (2 ^ suc m + p) +ℤ pos (castVote m b xs p)) xs ys
-voted-all {m} {b} asks w l = record {
-  long = w .long;
-  within = λ p lp. w .done p lp (omega (arith, coset-lt b (direction-top asks) p m (asks .under) lp));
-  below = w .below;
-  above = λ p lp. w .above p (omega arith);
-}
+abbrev pub VotedBelow : ℕ → ℕ → List ℤ → ℕ → List ℤ → Type 0
+VotedBelow m b xs q ys = SetBelow m b (λ p. at xs (2 ^ suc m + p) +ℤ pos (castVote m b xs p)) xs q ys
 
 -- a turn of the loop: p is the representative of coset q, and ys the area before it
 pub record Turn (m b : ℕ) (xs : List ℤ) (n q p : ℕ) (ys : List ℤ) : Type 0 where
@@ -62,28 +35,24 @@ pub record Turn (m b : ℕ) (xs : List ℤ) (n q p : ℕ) (ys : List ℤ) : Type
   pub voted : VotedBelow m b xs q ys
 
 module _ {m b n q p : ℕ} {xs ys : List ℤ} (t : Turn m b xs n q p ys) where
-  -- ---- p and p XOR b are two places of coset q
-
   one-of : cosetOf b p ≡ q
-  one-of = number-one (t .asks) (t .coset)
+  one-of = number-one (t .asks .direction) (t .coset)
 
   two-of : cosetOf b (bitXor p b) ≡ q
-  two-of = number-two (t .asks) (t .coset)
+  two-of = number-two (t .asks .direction) (t .coset)
 
-  two-places : bitXor p b ≢ p
-  two-places e =
-      let none : b ≡ 0 = sym (xor-zero-l b) ∙ ap (λ (x : ℕ). bitXor x b) (sym (xor-self p)) ∙ xor-assoc p p b ∙ ap (bitXor p) e ∙ xor-self p in
-      omega arith
+  blocks : Blocks m b 1 q p (bitXor p b)
+  blocks = pair-blocks (t .asks .direction) (t .coset)
 
   -- ---- the vote of coset q, by the definition and as the code has it
 
-  abbrev vote : ℕ
-  vote = (bit (project m b (wordOf (2 ^ suc m) xs)) q + natAbs (at xs (4 * 2 ^ m + q))) % 2
+  abbrev voteOf : ℕ → ℕ
+  voteOf q = (bit (project m b (wordOf (2 ^ suc m) xs)) q + natAbs (at xs (4 * 2 ^ m + q))) % 2
 
   abbrev cast : ℕ
   cast = bitXor (ofZ w32 (at ys (4 * n + q))) (bitXor (ofZ w32 (at ys p)) (ofZ w32 (at ys (bitXor p b))))
 
-  cast-is : cast ≡ ofZ w32 (pos vote)
+  cast-is : cast ≡ ofZ w32 (pos (voteOf q))
   cast-is =
       let here : at ys (4 * n + q) ≡ at xs (4 * 2 ^ m + q) = rw (t .size) (t .voted .above (4 * 2 ^ m + q) (omega arith)) in
       rw (here, pair-sum (t .asks) (t .coset) ys (t .voted .below))
@@ -94,18 +63,18 @@ module _ {m b n q p : ℕ} {xs ys : List ℤ} (t : Turn m b xs n q p ys) where
   abbrev added : ℤ → ℤ
   added z = stored (stored z +ℤ toZ w32 cast)
 
-  module _ (r : ℕ) (l : r < 2 ^ suc m) (z : ℤ) (e : z ≡ at xs (2 ^ suc m + r)) where
+  module _ (r : ℕ) (l : r < 2 ^ suc m) (of : cosetOf b r ≡ q) (z : ℤ) (e : z ≡ at xs (2 ^ suc m + r)) where
     few : Half z
-    few = record { half = omega (arith, t .tally .few r l, direction-lt (t .asks), ap natAbs e) }
+    few = record { half = omega (arith, t .tally .few r l, direction-lt (t .asks .direction), ap natAbs e) }
 
-    one : Half (pos vote)
+    one : Half (pos (voteOf q))
     one = record { half = omega arith }
 
     added-fits : SFits w32 (stored z +ℤ toZ w32 cast)
     added-fits = rw cast-is (sum-fits few one)
 
-    added-is : added z ≡ at xs (2 ^ suc m + r) +ℤ pos vote
-    added-is = rw (cast-is, sum-stored few one, e)
+    added-is : added z ≡ at xs (2 ^ suc m + r) +ℤ pos (castVote m b xs r)
+    added-is = rw (cast-is, sum-stored few one, e) (ap (λ (x : ℕ). at xs (2 ^ suc m + r) +ℤ pos (voteOf x)) (sym of))
 
   -- ---- the area with the vote at the first member, and then at the second
 
@@ -115,62 +84,36 @@ module _ {m b n q p : ℕ} {xs ys : List ℤ} (t : Turn m b xs n q p ys) where
   abbrev second : List ℤ
   second = set first (2 * n + bitXor p b) (added (at first (2 * n + bitXor p b)))
 
-  start : 2 * n ≡ 2 ^ suc m
-  start = omega arith
+  start : (r : ℕ) → 2 * n + r ≡ 2 ^ suc m + r
+  start r = omega (arith, t .size)
 
-  apart : 2 * n + bitXor p b ≢ 2 * n + p
-  apart e = two-places (omega arith)
+  set-one : (x : ℕ) (v : ℤ) (us : List ℤ) → x < length us → Written (pos 0) x 1 (λ _. v) us (set us x v)
+  set-one x v us l = written-more (written-none (pos 0) x (λ _. v) us) x v (omega arith) l refl
+
+  first-set : Written (pos 0) (2 * n + p) 1 (λ _. added (at ys (2 * n + p))) ys first
+  first-set = set-one _ _ ys (omega (arith, t .size, t .voted .long, t .asks .room, t .coset .place))
+
+  second-set : Written (pos 0) (2 * n + bitXor p b) 1 (λ _. added (at first (2 * n + bitXor p b))) first second
+  second-set = set-one _ _ first (omega (arith, t .size, first-set .long, t .voted .long, t .asks .room, t .coset .partner))
 
   votes-one : at ys (2 * n + p) ≡ at xs (2 ^ suc m + p)
-  votes-one = rw start (t .voted .ahead p (t .coset .place) (omega (arith, one-of)))
+  votes-one = rw (start p) (t .voted .ahead p (t .coset .place) (omega (arith, one-of)))
 
   votes-two : at first (2 * n + bitXor p b) ≡ at xs (2 ^ suc m + bitXor p b)
   votes-two =
-      getD-set-other ys (2 * n + p) (2 * n + bitXor p b) _ (pos 0) apart
-      ∙ rw start (t .voted .ahead (bitXor p b) (t .coset .partner) (omega (arith, two-of)))
+      let kept : at first (2 * n + bitXor p b) ≡ at ys (2 * n + bitXor p b) =
+      rw (add-zero (2 * n + bitXor p b)) at (still (apart-after (2 * n) (blocks .apart)) first-set 0 (omega arith)) in
+      kept ∙ rw (start (bitXor p b)) (t .voted .ahead (bitXor p b) (t .coset .partner) (omega (arith, two-of)))
 
   pub one-fits : SFits w32 (stored (at ys (2 * n + p)) +ℤ toZ w32 cast)
-  one-fits = added-fits p (t .coset .place) (at ys (2 * n + p)) votes-one
+  one-fits = added-fits p (t .coset .place) one-of (at ys (2 * n + p)) votes-one
 
   pub two-fits : SFits w32 (stored (at first (2 * n + bitXor p b)) +ℤ toZ w32 cast)
-  two-fits = added-fits (bitXor p b) (t .coset .partner) (at first (2 * n + bitXor p b)) votes-two
-
-  others : (i : ℕ) → i ≢ 2 * n + p → i ≢ 2 * n + bitXor p b → at second i ≡ at ys i
-  others i one two = getD-set-other first (2 * n + bitXor p b) i _ (pos 0) two ∙ getD-set-other ys (2 * n + p) i _ (pos 0) one
-
-  at-one : at second (2 * n + p) ≡ at xs (2 ^ suc m + p) +ℤ pos vote
-  at-one =
-      getD-set-other first (2 * n + bitXor p b) (2 * n + p) _ (pos 0) (λ e. apart (sym e))
-      ∙ getD-set-same ys (2 * n + p) _ (pos 0) (omega arith)
-      ∙ added-is p (t .coset .place) (at ys (2 * n + p)) votes-one
-
-  at-two : at second (2 * n + bitXor p b) ≡ at xs (2 ^ suc m + bitXor p b) +ℤ pos vote
-  at-two =
-      getD-set-same first (2 * n + bitXor p b) _ (pos 0) (rw (length-set ys (2 * n + p) (added (at ys (2 * n + p)))) (omega arith))
-      ∙ added-is (bitXor p b) (t .coset .partner) (at first (2 * n + bitXor p b)) votes-two
-
-  -- a member s has the coset's vote
-  member-voted : (s : ℕ) → at second (2 * n + s) ≡ at xs (2 ^ suc m + s) +ℤ pos vote → (r : ℕ) → r ≡ s → cosetOf b r ≡ q
-      → at second (2 ^ suc m + r) ≡ at xs (2 ^ suc m + r) +ℤ pos (castVote m b xs r)
-  member-voted s h r u e = ap (at second) {x = 2 ^ suc m + r} {y = 2 * n + s} (omega arith) ∙ h ∙ rw (sym u, e)
-
-  now-voted : (r : ℕ) → r < 2 ^ suc m → cosetOf b r < q + 1 → at second (2 ^ suc m + r) ≡ at xs (2 ^ suc m + r) +ℤ pos (castVote m b xs r)
-  now-voted r l c = elim (ℕ-discrete (cosetOf b r) q) [
-    | yes e ↦ ⊎-elim (λ u. member-voted p at-one r u e) (λ u. member-voted (bitXor p b) at-two r u e) (only-members (t .asks) (t .coset) r e)
-    | no k ↦ others (2 ^ suc m + r)
-        (λ e. k (ap (cosetOf b) (omega arith) ∙ one-of))
-        (λ e. k (ap (cosetOf b) (omega arith) ∙ two-of))
-        ∙ t .voted .done r l (omega arith)
-  ]
+  two-fits = added-fits (bitXor p b) (t .coset .partner) two-of (at first (2 * n + bitXor p b)) votes-two
 
   pub voted-more : VotedBelow m b xs (q + 1) second
-  voted-more = record {
-    long = length-set first _ _ ∙ length-set ys _ _ ∙ t .voted .long;
-    done = now-voted;
-    ahead = λ r l c. others (2 ^ suc m + r)
-        (λ e. omega (arith, ap (cosetOf b) {x = r} {y = p} (omega arith), one-of))
-        (λ e. omega (arith, ap (cosetOf b) {x = r} {y = bitXor p b} (omega arith), two-of))
-        ∙ t .voted .ahead r l (omega arith);
-    below = λ r l. others r (λ e. omega arith) (λ e. omega arith) ∙ t .voted .below r l;
-    above = λ r l. others r (λ e. omega arith) (λ e. omega arith) ∙ t .voted .above r l;
-  }
+  voted-more =
+      let f : ℕ → ℤ = λ r. at xs (2 ^ suc m + r) +ℤ pos (castVote m b xs r) in
+      set-more blocks (t .voted) (two-runs (apart-after (2 * n) (blocks .apart)) first-set second-set) (start p) (start (bitXor p b))
+      (λ i hi. added-is p (t .coset .place) one-of (at ys (2 * n + p)) votes-one ∙ ap f (omega arith))
+      (λ i hi. added-is (bitXor p b) (t .coset .partner) two-of (at first (2 * n + bitXor p b)) votes-two ∙ ap f (omega arith))

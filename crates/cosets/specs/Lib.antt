@@ -1,2 +1,3 @@
--- What the functions ask and promise.
+-- What projections and votes ask and promise: Votes. The rest are laws.
 pub mod Votes
+pub mod SetBelow

@@ -8,12 +8,11 @@ use lib.IntN.{ℤ, pos, natAbs}
 use Rattle.words.specs.Word.{bit}
 use Rattle.area.specs.Area.{at, IsBit, Bits, wordOf}
 use Rattle.direction.specs.Direction.{project, cosetOf}
+use Rattle.direction.specs.Members.{IsDirection}
 
 -- what direction b asks of the area
 pub record Projects (m b : ℕ) (xs : List ℤ) : Type 0 where
-  pub small : m ≤ 9
-  pub some : 0 < b
-  pub under : b < 2 ^ suc m
+  pub direction : IsDirection m b
   pub room : 5 * 2 ^ m ≤ length xs
   pub bits : Bits (2 ^ suc m) xs
 

@@ -4,3 +4,4 @@ pub mod Insert
 pub mod Projection
 pub mod Projected
 pub mod Cosets
+pub mod Members

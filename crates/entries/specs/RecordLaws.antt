@@ -3,7 +3,6 @@ use Prim.Native.Nat.{ℕ}
 use native.Mathlib.Omega.{arith}
 use mathlib.Core.Path.{_≡_, refl, sym, ap, _∙_, subst}
 use mathlib.Core.List.{List}
-use borrow.Author.Tests.{lt-leb, ne-eqb}
 use lib.ListN.{length}
 use lib.IntN.{ℤ}
 use Rattle.words.specs.Word.{IsWord}
@@ -15,16 +14,15 @@ use Rattle.code.specs.Code.{dimension}
 use Rattle.codec_checks.specs.Checks.{readChecks}
 use Rattle.profiles.specs.declared.Profile.{Profile}
 use Rattle.tables.specs.Limits.{InLimits}
-use Rattle.rule.specs.Reading.{Outcome, accepted, refused, reading}
-use Rattle.rule.specs.Counts.{Noise, reading-noise}
-use Rattle.rule.specs.Decoding.{after, answerOf, areaOf, decodeCall, decodeOf, outputOf, zeros}
-use Rattle.rule.specs.DecodingLaws.{call-is, limited-cases}
+use Rattle.rule.specs.Reading.{Outcome, accepted, refused}
+use Rattle.rule.specs.Decoding.{answerOf, areaOf, decodeCall, outputOf, zeros}
+use Rattle.rule.specs.DecodingLaws.{call-is}
 use Rattle.rule.specs.Demand3.{Sound, decode-sound}
 use Rattle.rule.specs.Calls.{Decodes}
-use Rattle.lines.specs.Lines.{Lines, entry, acceptedBy, acceptedIn, decodedBy, recordEntry}
+use Rattle.lines.specs.Lines.{Lines, acceptedBy, acceptedIn, decodedBy, recordEntry}
 use Rattle.code.specs.Dimension.{dimension-most}
 use Rattle.billing.specs.MessageLines.{codeword-passes}
-use Rattle.table_decoder.specs.TableLaws.{entry-passes}
+use Rattle.table_decoder.specs.TableLaws.{entry-area}
 use Rattle.billing.specs.Accepted.{Answered}
 use Rattle.billing.specs.AnswerLaws.{answered-accepted, answered-refused}
 use Rattle.text.specs.Texts.{Appended}
@@ -35,18 +33,6 @@ pub entry-code : {p : Profile} → InLimits p → IsCode (p .m) (p .r)
 entry-code l = record { some = omega (arith, l .some); most = l .small; order = l .order }
 
 -- ---- the decoder's answers
-
--- a word of an entry is read, so that the area is zero after it
-noise-area : (o : Outcome) (area : List ℤ) → Noise o → areaOf o area ≡ zeros area
-noise-area (accepted d k l) area h = refl
-noise-area (refused e k l) area h = rw (lt-leb e 8 (omega arith), ne-eqb e 14 (λ z. omega arith), ne-eqb e 18 (λ z. omega arith), ne-eqb e 27 (λ z. omega arith))
-
-decoded-area : {p : Profile} → InLimits p → (word : List ℕ) (area : List ℤ) → areaOf (decodedBy p word) area ≡ zeros area
-unfolding decodeOf after
-decoded-area {p} l word area =
-    rw (← (entry-passes l))
-    (limited-cases (p .leaves) (reading (p .r) (p .m) (p .rounds) word) (λ o. areaOf o area ≡ zeros area) (λ k. refl)
-    (λ k. noise-area (reading (p .r) (p .m) (p .rounds) word) area (reading-noise (p .r) (p .m) (p .rounds) word)))
 
 -- what was put out is put out again
 output-again : (o : Outcome) (out : List ℕ) → outputOf o out ≡ outputOf o (outputOf o out)
@@ -70,7 +56,7 @@ module _ (p : Profile) {word out out′ : List ℕ} {area area′ : List ℤ} {d
       }
 
   pub decodes-area : area′ ≡ zeros area
-  decodes-area = c .lent ∙ ap (λ (x : Outcome). areaOf x area) is ∙ decoded-area (h .limits) word area
+  decodes-area = c .lent ∙ ap (λ (x : Outcome). areaOf x area) is ∙ entry-area (h .limits) word area
 
 -- the entry of a record: its line, and whether the decoder accepted
 module _ {p : Profile} {word decoded : List ℕ} {d : Decoded} (h : Answered p word decoded d) where

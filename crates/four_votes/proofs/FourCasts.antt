@@ -2,8 +2,6 @@
 use Prim.Native.Nat.{ℕ, _+_, _-_, _*_, _^_, _<_, _≤_}
 use mathlib.Core.Path.{_≡_, sym, ap, ap₂, _∙_}
 use mathlib.Core.List.{List}
-use mathlib.Core.Logic.{_≢_, ⊎-elim}
-use native.Mathlib.Decide.{decLt, decLe}
 use native.Mathlib.Nat.{zero-add}
 use native.Mathlib.Omega.{arith}
 use lib.Bits.{bitXor, xor-zero-r}
@@ -12,12 +10,13 @@ use lib.IntN.{ℤ, pos, _+ℤ_}
 use mir.Syntax.{w64}
 use mir.Val.{Fits}
 use borrow.Rule.Slice.PartMut.{putMid}
-use Rattle.words.specs.Written.{Written, written-none, written-to}
+use Rattle.words.specs.Written.{Written, written-none, written-to, written-as}
 use Rattle.words.specs.Parts.{written-part}
 use Rattle.area.specs.Area.{at, IsBit, fourOf}
 use Rattle.area.specs.AreaLaws.{bit-back, by-four}
 use Rattle.area.specs.Numbers.{stored, Half}
 use Rattle.area.specs.Places.{Places, index-fits, places}
+use Rattle.cosets.specs.SetBelow.{Apart, apart-after, still, two-runs}
 use Rattle.projections.specs.Fours.{bitSum, pairSum}
 use Rattle.four_votes.specs.FourVotes.{Addends, FourVotes, fourVote, FourVoted}
 use Rattle.projections.specs.FourLaws.{four-lt}
@@ -34,16 +33,6 @@ part-added r l xs part v room w =
     ap (at part) {x = j} {y = 0 + j} (omega arith) ∙ w .within j (omega arith) ∙ ap (λ (x : ℤ). x +ℤ v (bitXor j l)) (four-at r xs room j (omega arith))
     ∙ ap (λ (k : ℕ). at xs (r + k) +ℤ v (bitXor k l)) (sym (zero-add j))))
     4 (omega arith)
-
--- entries outside a written run
-outside : {a n : ℕ} {f : ℕ → ℤ} {xs ys : List ℤ} → Written (pos 0) a n f xs ys → (j : ℕ) → ((i : ℕ) → i < n → j ≢ a + i) → at ys j ≡ at xs j
-outside {a} {n} w j k = elim (decLt j a) [
-  | yes l ↦ w .below j l
-  | no l ↦ elim (decLe (a + n) j) [
-    | yes g ↦ w .above j g
-    | no g ↦ absurd (k (j - a) (omega arith) (omega arith))
-  ]
-]
 
 -- the places that the code takes
 pub record Rooms (n q p z len : ℕ) : Type 0 where
@@ -99,6 +88,9 @@ module _ {n q p z l : ℕ} {xs : List ℤ} {a b c d : ℤ} (t : Casts n q p z l 
   vote-half : (i : ℕ) → i < 4 → Half (fourOf a b c d i)
   vote-half i hi = rw (t .votes i hi) (record { half = omega arith })
 
+  apart : Apart 4 (2 * n + p) (2 * n + z)
+  apart = apart-after (2 * n) (t .asks .apart)
+
   pub first-adds : Addends 0 a b c d (four (2 * n + p) xs)
   first-adds = record {
     size = four-length (2 * n + p) xs (t .asks .room-one);
@@ -118,8 +110,7 @@ module _ {n q p z l : ℕ} {xs : List ℤ} {a b c d : ℤ} (t : Casts n q p z l 
     room-two = omega (arith, first .long, t .asks .room-two)
 
     kept : (i : ℕ) → i < 4 → at between (2 * n + z + i) ≡ at xs (2 * n + z + i)
-    kept i hi =
-        ⊎-elim (λ (k : p + 4 ≤ z). first .above (2 * n + z + i) (omega arith)) (λ (k : z + 4 ≤ p). first .below (2 * n + z + i) (omega arith)) (t .asks .apart)
+    kept = still apart first
 
     pub second-adds : Addends l a b c d (four (2 * n + z) between)
     second-adds = record {
@@ -137,12 +128,7 @@ module _ {n q p z l : ℕ} {xs : List ℤ} {a b c d : ℤ} (t : Casts n q p z l 
       second = part-added (2 * n + z) l between part′ (fourOf a b c d) room-two two
 
       pub four-voted : FourVoted n q p z l xs after
-      four-voted = record {
-        long = second .long ∙ first .long;
-        one = λ i hi.
-            outside second (2 * n + p + i)
-            (λ j hj e. ⊎-elim (λ (k : p + 4 ≤ z). omega arith) (λ (k : z + 4 ≤ p). omega arith) (t .asks .apart))
-            ∙ first .within i hi ∙ ap (λ (x : ℤ). at xs (2 * n + p + i) +ℤ x) (ap (fourOf a b c d) (xor-zero-r i) ∙ t .votes i hi);
-        two = λ i hi. second .within i hi ∙ ap₂ _+ℤ_ (kept i hi) (t .votes (bitXor i l) (four-lt hi (t .asks .bits .low)));
-        others = λ j k. outside second j (λ i hi. k i hi .1) ∙ outside first j (λ i hi. k i hi .0);
-      }
+      four-voted =
+          two-runs apart
+          (written-as first _ (λ i hi. ap (λ (x : ℤ). at xs (2 * n + p + i) +ℤ x) (ap (fourOf a b c d) (xor-zero-r i) ∙ t .votes i hi)))
+          (written-as second _ (λ i hi. ap₂ _+ℤ_ (kept i hi) (t .votes (bitXor i l) (four-lt hi (t .asks .bits .low)))))

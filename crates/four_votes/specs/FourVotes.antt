@@ -1,13 +1,13 @@
 -- Votes by blocks of 4 cosets: what the functions on them ask and promise. Assumes nothing.
 use Prim.Native.Nat.{ℕ, _+_, _*_, _≤_, _<_}
 use mathlib.Core.Path.{_≡_}
-use mathlib.Core.Logic.{_≢_, _⊎_}
 use mathlib.Core.List.{List}
 use lib.Bits.{bitXor}
 use lib.IntN.{ℤ, _+ℤ_}
 use lib.ListN.{length}
 use Rattle.area.specs.Area.{at, IsBit, fourOf}
 use Rattle.area.specs.Numbers.{Half}
+use Rattle.cosets.specs.SetBelow.{Apart, TwoRuns}
 use Rattle.projections.specs.Fours.{bitSum, TwoBlocks, pairSum}
 
 -- four numbers that can be added to the entries of xs, in the order i XOR l
@@ -21,7 +21,7 @@ pub record Addends (l : ℕ) (a b c d : ℤ) (xs : List ℤ) : Type 0 where
 pub record FourVotes (n q p z l : ℕ) (xs : List ℤ) : Type 0 where
   pub bits : TwoBlocks (4 * n + q) p z l xs
   pub decoded : (i : ℕ) → i < 4 → IsBit (at xs (4 * n + q + i))
-  pub apart : (p + 4 ≤ z) ⊎ (z + 4 ≤ p)
+  pub apart : Apart 4 p z
   pub room-one : 2 * n + p + 4 ≤ length xs
   pub room-two : 2 * n + z + 4 ≤ length xs
   pub few-one : (i : ℕ) → i < 4 → Half (at xs (2 * n + p + i))
@@ -32,8 +32,9 @@ abbrev pub fourVote : ℕ → ℕ → ℕ → ℕ → ℕ → List ℤ → ℕ �
 fourVote n q p z l xs i = bitSum (at xs (4 * n + q + i)) (pairSum p z l xs i)
 
 -- ys is xs with the four votes at both members
-pub record FourVoted (n q p z l : ℕ) (xs ys : List ℤ) : Type 0 where
-  pub long : length ys ≡ length xs
-  pub one : (i : ℕ) → i < 4 → at ys (2 * n + p + i) ≡ at xs (2 * n + p + i) +ℤ fourVote n q p z l xs i
-  pub two : (i : ℕ) → i < 4 → at ys (2 * n + z + i) ≡ at xs (2 * n + z + i) +ℤ fourVote n q p z l xs (bitXor i l)
-  pub others : (j : ℕ) → ((i : ℕ) → i < 4 → (j ≢ 2 * n + p + i) × (j ≢ 2 * n + z + i)) → at ys j ≡ at xs j
+abbrev pub FourVoted : ℕ → ℕ → ℕ → ℕ → ℕ → List ℤ → List ℤ → Type 0
+FourVoted n q p z l xs ys =
+    TwoRuns (2 * n + p) (2 * n + z) 4
+    (λ i. at xs (2 * n + p + i) +ℤ fourVote n q p z l xs i)
+    (λ i. at xs (2 * n + z + i) +ℤ fourVote n q p z l xs (bitXor i l))
+    xs ys

@@ -19,7 +19,7 @@ use Rattle.code.specs.Dimension.{dimension-most}
 use Rattle.codec_checks.specs.Checks.{encodeChecks, readChecks}
 use Rattle.profiles.specs.declared.Profile.{Profile}
 use Rattle.profiles.specs.Profiles.{profileOf}
-use Rattle.rule.specs.Counts.{Leaf, Noise, Rounds, reading-leaf, reading-noise, reading-rounds}
+use Rattle.rule.specs.Counts.{Leaf, ByNoise, Rounds, reading-leaf, reading-noise, reading-rounds}
 use Rattle.rule.specs.Decoding.{Values, values, answerOf, bufferChecks, decodeProfileCall, limited, profileChecks, refusalOf}
 use Rattle.rule.specs.DecodingLaws.{after-cases}
 use Rattle.rule.specs.ProfileLaws.{number-passed, profile-leaves, profile-limited}
@@ -170,7 +170,7 @@ reading-limit r m limit w =
     (le-or-lt r 1)
 
 -- what a reading of noise leaves
-read-fits-all : (m : ℕ) (w : List ℕ) (o : Outcome) → 2 ^ m ≤ 256 → roundsOf o ≤ 4 → leavesOf o ≤ 518160 → Noise o → AllFit (answerOf m w o) (placeNamed w (refusalOf o))
+read-fits-all : (m : ℕ) (w : List ℕ) (o : Outcome) → 2 ^ m ≤ 256 → roundsOf o ≤ 4 → leavesOf o ≤ 518160 → ByNoise o → AllFit (answerOf m w o) (placeNamed w (refusalOf o))
 unfolding roundsOf
 read-fits-all m w (accepted d k l) a b c h = record {
   refusal-bits = omega arith;
@@ -197,7 +197,7 @@ module _ (profile : ℕ) (word : List ℕ) (room : ℕ) where
   abbrev read : Outcome
   read = reading (p .r) (p .m) (p .rounds) word
 
-  noise : Noise read
+  noise : ByNoise read
   noise = reading-noise (p .r) (p .m) (p .rounds) word
 
   pub decode-fits : AllFit (answerOf (p .m) word (ownCall profile word room)) (placeNamed word (refusalOf (ownCall profile word room)))
@@ -229,7 +229,7 @@ module _ (profile : ℕ) (word : List ℕ) (room : ℕ) where
       let b = before 7 (profileChecks profile) checks (omega arith) refl e in
       enough (number-passed profile [] (b .0)) (before 7 (check 5 _ ∷ check 6 _ ∷ []) _ (omega arith) refl (b .1) .1))
     where
-      noise-not-7 : (o : Outcome) → Noise o → refusalOf o ≢ 7
+      noise-not-7 : (o : Outcome) → ByNoise o → refusalOf o ≢ 7
       noise-not-7 (accepted d k l) h e = omega arith
       noise-not-7 (refused n k l) h e = omega arith
 

@@ -164,11 +164,11 @@ module _ (asked : ℕ) (P : Drawn → Type 0) (keeps : (d : Drawn) → wrongIn (
   times-keeps (suc k) d h = until-keeps (drawTimes asked k d) (times-keeps k d h)
 
 -- a word with at most the asked number of places wrong
-pub record Noise (m asked : ℕ) (noise : List ℕ) : Type 0 where
+pub record FewWrong (m asked : ℕ) (noise : List ℕ) : Type 0 where
   pub word : IsWord m noise
   pub few : wrongIn noise ≤ asked
 
-draw-noise : (m asked : ℕ) (d : Drawn) → wrongIn (d .noise) < asked → Noise m asked (d .noise) → Noise m asked (draw d .noise)
+draw-noise : (m asked : ℕ) (d : Drawn) → wrongIn (d .noise) < asked → FewWrong m asked (d .noise) → FewWrong m asked (draw d .noise)
 unfolding draw
 draw-noise m asked d l h =
     let q : ℕ = step (d .state) % length (d .noise) in
@@ -178,10 +178,10 @@ draw-noise m asked d l h =
       few = omega (arith, wrong-set (d .noise) q lq (h .word .bits q));
     }
 
-pub places-noise : (m asked x : ℕ) → Noise m asked (placesFrom (2 ^ m) asked x .noise)
+pub places-noise : (m asked x : ℕ) → FewWrong m asked (placesFrom (2 ^ m) asked x .noise)
 unfolding placesFrom
 places-noise m asked x =
-    times-keeps asked (λ (d : Drawn). Noise m asked (d .noise)) (draw-noise m asked) (2 ^ m) (begun (2 ^ m) x)
+    times-keeps asked (λ (d : Drawn). FewWrong m asked (d .noise)) (draw-noise m asked) (2 ^ m) (begun (2 ^ m) x)
     record { word = word-tabulate m (λ p. 0) (λ p l. omega arith); few = omega (arith, zeros-wrong (2 ^ m)) }
 
 pub places-live : (n asked x : ℕ) → Live x → Live (placesFrom n asked x .state)

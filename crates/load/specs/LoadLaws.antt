@@ -17,7 +17,7 @@ use Rattle.refusals.specs.CheckLaws.{passed, passes}
 use Rattle.tables.specs.declared.Slot.{Slot}
 use Rattle.generator.specs.Generator.{steps, wrongIn}
 use Rattle.generator.specs.StepLaws.{Live, steps-live}
-use Rattle.generator.specs.PlaceLaws.{Noise, places-live, places-noise}
+use Rattle.generator.specs.PlaceLaws.{FewWrong, places-live, places-noise}
 use Rattle.load.specs.Load.{blockChecks, blockFrom, leftShort, placesAfter, sentFrom, stateAfter, stateBefore}
 
 -- ---- how far a block is from the codeword sent
@@ -41,7 +41,7 @@ module _ (m r asked x : ℕ) where
   unfolding sentFrom
   sent-codeword = encoder-codeword m r _
 
-  noise : Noise m asked (placesAfter m r asked x .noise)
+  noise : FewWrong m asked (placesAfter m r asked x .noise)
   unfolding placesAfter
   noise = places-noise m asked (steps (dimension m r) x)
 

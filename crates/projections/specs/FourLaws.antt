@@ -5,11 +5,12 @@ use mathlib.Core.Logic.{_≢_, _⊎_, inl, inr}
 use native.Mathlib.Decide.{decLe}
 use native.Mathlib.Nat.{mul-assoc, sub-add-cancel}
 use native.Mathlib.Omega.{arith}
-use lib.Bits.{bitXor, xor-block, xor-lt, xor-self, xor-zero-l}
+use lib.Bits.{bitXor, xor-block, xor-lt}
 use lib.Pow.{pow-add, pow-mono, shr-shr}
-use Rattle.words.specs.Xor.{xor-assoc, xor-twice}
+use Rattle.words.specs.Xor.{xor-twice}
 use Rattle.direction.specs.Direction.{insertZero}
 use Rattle.direction.specs.Insert.{Top, insert-sum}
+use Rattle.direction.specs.Members.{partner-apart}
 
 -- ---- the places of a block
 
@@ -70,11 +71,10 @@ module _ (p w : ℕ) (wp : p % 4 ≡ 0) (ww : w % 4 ≡ 0) where
   -- the two blocks have no place in common
   pub blocks-apart : 0 < w → (p + 4 ≤ bitXor p w) ⊎ (bitXor p w + 4 ≤ p)
   blocks-apart some =
-      let other : bitXor p w ≢ p = λ e. omega (arith, sym (xor-zero-l w) ∙ ap (λ (x : ℕ). bitXor x w) (sym (xor-self p)) ∙ xor-assoc p p w ∙ ap (bitXor p) e ∙ xor-self p) in
       elim (decLe (p + 4) (bitXor p w)) [
         | yes k ↦ inl k
         | no k ↦ elim (decLe (bitXor p w + 4) p) [
           | yes n ↦ inr n
-          | no n ↦ absurd (other (omega (arith, start)))
+          | no n ↦ absurd (partner-apart p w some (omega (arith, start)))
         ]
       ]

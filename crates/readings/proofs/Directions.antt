@@ -147,9 +147,7 @@ pub record Stage (f : Round) (ys : List ℤ) (i used absent : ℕ) : Type 0 wher
 module _ {f : Round} {ys : List ℤ} {i used absent : ℕ} (stage : Stage f ys i used absent) where
   projects-of : {us : List ℤ} → length us ≡ f .size → Front (2 ^ suc (f .m)) (f .word) us → Projects (f .m) (i + 1) us
   projects-of e word = record {
-    small = stage .small;
-    some = omega arith;
-    under = omega arith;
+    direction = record { small = stage .small; some = omega arith; under = omega arith };
     room = omega arith;
     bits = front-bits (omega arith) word;
   }

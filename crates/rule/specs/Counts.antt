@@ -77,19 +77,19 @@ reading-rounds (suc (suc r)) m limit w h =
     rw zero-add at (rounds-count (pred m) (reading (suc r) (pred m) limit) (suc (suc r)) limit 0 0 w)
 
 -- a refusal is 9, 10 or 11
-abbrev pub Noise : Outcome → Type 0
-Noise (accepted d k l) = Unit {0}
-Noise (refused e k l) = (9 ≤ e) × (e ≤ 11)
+abbrev pub ByNoise : Outcome → Type 0
+ByNoise (accepted d k l) = Unit {0}
+ByNoise (refused e k l) = (9 ≤ e) × (e ≤ 11)
 
-leaf-noise : (r : ℕ) (o : Outcome) → Leaf r o → Noise o
+leaf-noise : (r : ℕ) (o : Outcome) → Leaf r o → ByNoise o
 leaf-noise r (accepted d k l) h = tt
 leaf-noise r (refused e k l) h = (omega arith, omega arith)
 
-rounds-noise : (j i : ℕ) (o : Outcome) → Rounds j i o → Noise o
+rounds-noise : (j i : ℕ) (o : Outcome) → Rounds j i o → ByNoise o
 rounds-noise j i (accepted d k l) h = tt
 rounds-noise j i (refused e k l) h = ⊎-elim (λ a. (omega arith, omega arith)) (λ b. (omega arith, omega arith)) h
 
-pub reading-noise : (r m limit : ℕ) (w : List ℕ) → Noise (reading r m limit w)
+pub reading-noise : (r m limit : ℕ) (w : List ℕ) → ByNoise (reading r m limit w)
 reading-noise zero m limit w = leaf-noise 0 (reading 0 m limit w) (reading-leaf 0 m limit w (omega arith))
 reading-noise (suc zero) m limit w = leaf-noise 1 (reading 1 m limit w) (reading-leaf 1 m limit w (omega arith))
 reading-noise (suc (suc r)) m limit w = rounds-noise 0 limit (reading (suc (suc r)) m limit w) (reading-rounds (suc (suc r)) m limit w (omega arith))

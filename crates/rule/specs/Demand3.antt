@@ -5,7 +5,7 @@ use mathlib.Core.List.{List, [], _++_}
 use native.Mathlib.Omega.{arith}
 use Rattle.code.specs.Code.{IsCodeword}
 use Rattle.rule.specs.Decoding.{answerOf, refusalOf, outputOf, values}
-use Rattle.rule.specs.Counts.{Noise, reading-noise}
+use Rattle.rule.specs.Counts.{ByNoise, reading-noise}
 use Rattle.rule.specs.Covariance.{reading-add, reading-in}
 use Rattle.rule.specs.Decoding.{after, bufferChecks, decodeCall, decodeOf, decodeProfileCall, decodeProfileOf, limitChecks, limited, profileChecks}
 use Rattle.rule.specs.DecodingLaws.{RightSizes, after-cases, after-shift, buffers-passed, call-is, limited-cases, limited-shift, profile-call-is}
@@ -43,7 +43,7 @@ agree m r w c (refused n k l) y hw hc h e = record { answer = ap (answerOf m (ad
 abbrev answered : List Check → ℕ → ℕ → ℕ → ℕ → List ℕ → Outcome
 answered cs m r rounds leaves w = after cs (limited leaves (reading r m rounds w))
 
-pub sound : (m r : ℕ) (o : Outcome) → CodewordIn m r o → Noise o → Sound m r o
+pub sound : (m r : ℕ) (o : Outcome) → CodewordIn m r o → ByNoise o → Sound m r o
 sound m r (accepted d k l) h n = h
 sound m r (refused e k l) h n = omega arith
 

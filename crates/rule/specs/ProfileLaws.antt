@@ -10,7 +10,7 @@ use borrow.Author.Tests.{leb-true}
 use Rattle.code.specs.Code.{dimension}
 use Rattle.code.specs.Dimension.{choose, dimension-choose}
 use Rattle.rule.specs.Decoding.{refusalOf}
-use Rattle.rule.specs.Counts.{Noise, mostLeaves, reading-most, reading-noise}
+use Rattle.rule.specs.Counts.{ByNoise, mostLeaves, reading-most, reading-noise}
 use Rattle.rule.specs.Decoding.{bufferChecks, decodeProfileCall, decodeProfileOf, limitChecks, limited, profileChecks}
 use Rattle.rule.specs.DecodingLaws.{after-cases, limited-within}
 use Rattle.rule.specs.Reading.{Outcome, accepted, leavesOf, reading, refused}
@@ -48,7 +48,7 @@ profile-most = each (λ (p : Profile). mostLeaves (p .r) (p .m) (p .rounds) ≡ 
 abbrev pub Not12 : Outcome → Type 0
 Not12 o = refusalOf o ≡ 12 → ⊥
 
-noise-not-12 : (o : Outcome) → Noise o → Not12 o
+noise-not-12 : (o : Outcome) → ByNoise o → Not12 o
 noise-not-12 (accepted d i j) h e = omega arith
 noise-not-12 (refused n i j) h e = omega arith
 

@@ -2,14 +2,14 @@
 use Prim.Native.Nat.{ℕ, _-_, _^_, _≤_}
 use native.Mathlib.Decide.{decLt}
 use native.Mathlib.Omega.{arith}
-use mathlib.Core.Path.{_≡_, refl, ap, _∙_}
+use mathlib.Core.Path.{_≡_, ap, _∙_}
 use mathlib.Core.Logic.{_≢_}
 use mathlib.Core.List.{List}
 use lib.IntN.{ℤ}
 use lib.ListN.{drop, getD-replicate, length, length-replicate, List·getD-eq-default, replicate, take}
 use lib.Pow.{pow-mono}
 use lib.Seq.{getD-take}
-use borrow.Author.Tests.{lt-leb, ne-eqb}
+use borrow.Author.Tests.{ne-eqb}
 use Rattle.words.specs.Parts.{front-length}
 use Rattle.words.specs.Word.{IsWord, bit, distance}
 use Rattle.refusals.specs.Refusals.{numberOf}
@@ -18,14 +18,12 @@ use Rattle.refusals.specs.declared.Decoded.{Decoded}
 use Rattle.refusals.specs.declared.Decoded.the-variants.{Accepted, Refused}
 use Rattle.refusals.specs.declared.Refusal.{Refusal}
 use Rattle.profiles.specs.declared.Profile.{Profile}
-use Rattle.tables.specs.Limits.{InLimits}
-use Rattle.rule.specs.Reading.{Outcome, accepted, reading, refused}
-use Rattle.rule.specs.Counts.{Noise, reading-noise}
+use Rattle.rule.specs.Reading.{Outcome, accepted, refused}
 use Rattle.rule.specs.Calls.{Decodes, valuesOf}
-use Rattle.rule.specs.Decoding.{after, answerOf, areaOf, decodeCall, decodeOf, numberIn, outputOf, zeros}
-use Rattle.rule.specs.DecodingLaws.{call-is, limited-cases}
+use Rattle.rule.specs.Decoding.{answerOf, decodeCall, decodeOf, numberIn, outputOf}
+use Rattle.rule.specs.DecodingLaws.{call-is}
 use Rattle.rule.specs.Demand3.{Sound, decode-sound}
-use Rattle.table_decoder.specs.TableLaws.{entry-passes}
+use Rattle.table_decoder.specs.TableLaws.{entry-area}
 use Rattle.generator.specs.declared.Places.{Places}
 use Rattle.load.specs.LoadLaws.{block-word, sent-codeword}
 use Rattle.load.specs.Steps.{BlockDrawn}
@@ -78,18 +76,6 @@ word-of : (m r : ℕ) (got : List ℕ) (o : Outcome) → IsWord m got → Sound 
 word-of m r got (accepted d k l) h s = s .word
 word-of m r got (refused e k l) h s = h
 
-noise-area : (o : Outcome) (area : List ℤ) → Noise o → areaOf o area ≡ zeros area
-noise-area (accepted d k l) area h = refl
-noise-area (refused e k l) area h = rw (lt-leb e 8 (omega arith), ne-eqb e 14 (λ z. omega arith), ne-eqb e 18 (λ z. omega arith), ne-eqb e 27 (λ z. omega arith))
-
--- an entry's block is read, so that the area is zero after it
-read-area : {p : Profile} → InLimits p → (word : List ℕ) (area : List ℤ) → areaOf (decodeOf (p .m) (p .r) (p .rounds) (p .leaves) word) area ≡ zeros area
-unfolding decodeOf after
-read-area {p} l word area =
-    rw (← (entry-passes l))
-    (limited-cases (p .leaves) (reading (p .r) (p .m) (p .rounds) word) (λ o. areaOf o area ≡ zeros area) (λ k. refl)
-    (λ k. noise-area (reading (p .r) (p .m) (p .rounds) word) area (reading-noise (p .r) (p .m) (p .rounds) word)))
-
 module _ (p : Profile) (wrong x : ℕ) {sent₀ sent got got′ block₀ block : List ℕ} {area area′ : List ℤ} {places : Places} {d : Decoded}
     (h : SendableIn p sent₀ got block₀ area) (drew : BlockDrawn (p .m) (p .r) wrong x sent block places)
     (c : Decodes (p .m) (decodeCall (p .m) (p .r) (p .rounds) (p .leaves) block (length got) (length area)) block got got′ area area′ d) where
@@ -120,5 +106,5 @@ module _ (p : Profile) (wrong x : ℕ) {sent₀ sent got got′ block₀ block :
     block-is = drew .block-is;
     answer = j ∙ answer-of (p .m) (p .r) sent block got got′ d o is-sound (decodes .answer) (decodes .output) ∙ rw (drew .sent-is, drew .block-is);
     state = drew .state;
-    area-is = decodes .lent ∙ read-area (h .sendable .limits) block area;
+    area-is = decodes .lent ∙ entry-area (h .sendable .limits) block area;
   }

@@ -7,7 +7,7 @@ use native.Mathlib.Omega.{arith}
 use lib.Dec.{leb}
 use lib.ListN.{length}
 use lib.IntN.{ℤ}
-use borrow.Author.Tests.{le-leb}
+use borrow.Author.Tests.{le-leb, lt-leb, ne-eqb}
 use Rattle.words.specs.Word.{addWords}
 use Rattle.code.specs.Code.{IsCodeword}
 use Rattle.refusals.specs.CheckLaws.{no-more, other-place, passes, fails, then}
@@ -21,9 +21,10 @@ use Rattle.tables.specs.declared.Slot.{Slot}
 use Rattle.tables.specs.Tables.{entryOf, known, none, ours, slotOf, some}
 use Rattle.tables.specs.Limits.{InLimits, is-known, ours-known, ours-entry}
 use Rattle.tables.specs.Slots.{slot-known}
-use Rattle.rule.specs.Reading.{refused}
-use Rattle.rule.specs.Decoding.{after, bufferChecks, decodeCall, decodeProfileCall, limitChecks}
-use Rattle.rule.specs.DecodingLaws.{RightSizes, after-same}
+use Rattle.rule.specs.Reading.{Outcome, accepted, reading, refused}
+use Rattle.rule.specs.Counts.{ByNoise, reading-noise}
+use Rattle.rule.specs.Decoding.{after, areaOf, bufferChecks, decodeCall, decodeOf, decodeProfileCall, limitChecks, zeros}
+use Rattle.rule.specs.DecodingLaws.{RightSizes, after-same, limited-cases}
 use Rattle.rule.specs.Calls.{Decodes}
 use Rattle.rule.specs.Demand3.{Agree, demand-3-call}
 use Rattle.table_decoder.specs.Table.{tableChecks, decodeTableCall}
@@ -38,6 +39,18 @@ entry-passes {p} l =
     (passes 3 (leb (p .rounds) 16) _ (le-leb (p .rounds) 16 (l .rounds))
     (passes 4 (leb 1 (p .leaves)) _ (le-leb 1 (p .leaves) (l .leaf))
     (passes 4 (leb (p .leaves) 1000000) _ (le-leb (p .leaves) 1000000 (l .leaves)) no-more))))))
+
+-- so that a block of it is read, and the area is zero after it
+noise-area : (o : Outcome) (area : List ℤ) → ByNoise o → areaOf o area ≡ zeros area
+noise-area (accepted d k l) area h = refl
+noise-area (refused e k l) area h = rw (lt-leb e 8 (omega arith), ne-eqb e 14 (λ z. omega arith), ne-eqb e 18 (λ z. omega arith), ne-eqb e 27 (λ z. omega arith))
+
+pub entry-area : {p : Profile} → InLimits p → (word : List ℕ) (area : List ℤ) → areaOf (decodeOf (p .m) (p .r) (p .rounds) (p .leaves) word) area ≡ zeros area
+unfolding decodeOf after
+entry-area {p} l word area =
+    rw (← (entry-passes l))
+    (limited-cases (p .leaves) (reading (p .r) (p .m) (p .rounds) word) (λ o. areaOf o area ≡ zeros area) (λ k. refl)
+    (λ k. noise-area (reading (p .r) (p .m) (p .rounds) word) area (reading-noise (p .r) (p .m) (p .rounds) word)))
 
 module _ (t : Table) (number : ℕ) where
   abbrev p : Profile

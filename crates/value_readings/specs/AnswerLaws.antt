@@ -17,6 +17,7 @@ use Rattle.area.specs.Area.{at, Bits, IsBit, SameFront}
 use Rattle.area.specs.AreaLaws.{is-bit}
 use Rattle.cosets.specs.Votes.{InProjection}
 use Rattle.direction.specs.Direction.{cosetOf}
+use Rattle.direction.specs.Members.{number-lt}
 use Rattle.hadamard.specs.Correlation.{constantOf, signed}
 use Rattle.rule.specs.Reading.{Outcome, abstains}
 use Rattle.told.specs.Told.{Holds, numbersIn, numbersOf}
@@ -29,7 +30,7 @@ use Rattle.confidences.specs.Confidences.{read, share}
 use Rattle.confidences.specs.ValueLaws.{same-values}
 use Rattle.confidences.specs.Values.{Projects, Sums, frontOf, heardAt}
 use Rattle.value_orders.specs.SignLaws.{sign-bit}
-use Rattle.value_readings.specs.LeafLaws.{coset-here, hear-asks, kept-front}
+use Rattle.value_readings.specs.LeafLaws.{hear-asks, kept-front}
 use Rattle.value_readings.specs.Polls.{Heard, Poll, Polled, partOf, saidOf}
 use Rattle.value_readings.specs.PollLaws.{front-then, poll-more, written-front}
 
@@ -75,9 +76,7 @@ module _ {m b c k : ℕ} {xs : List ℤ} (projects : Projects m b c xs) (sums : 
     pub share-asks : Projects m b c zs × Sums (2 ^ suc m) zs
     share-asks = (
       record {
-        few = projects .few;
-        some = projects .some;
-        under = projects .under;
+        direction = projects .direction;
         beyond = projects .beyond;
         room = omega (arith, turned .long, projects .room);
         values = same-values (written-front turned (omega arith)) (projects .values);
@@ -91,12 +90,12 @@ module _ {m b c k : ℕ} {xs : List ℤ} (projects : Projects m b c xs) (sums : 
       front = record { long = new .long ∙ front .long; same = λ p h. new .below p h ∙ front .same p (omega arith) };
       sums = λ p h.
           let q : ℕ = cosetOf b p in
-          let u : q < 2 ^ m = coset-here projects p h in
+          let u : q < 2 ^ m = number-lt (projects .direction) p h in
           new .within p h
           ∙ ap₂ _+ℤ_ (front .same (2 ^ suc m + p) (omega arith))
           (ap₂ signed
           (ap constantOf (turned .within q u) ∙ sign-bit (bit-here q u) ∙ ap (λ (e : ℕ). natAbs (at xs (e + q))) place)
-          (front .same (bitXor p b) (omega (arith, xor-lt (suc m) p b h (projects .under)))));
+          (front .same (bitXor p b) (omega (arith, xor-lt (suc m) p b h (projects .direction .under)))));
     }
 
 -- a direction that abstains
@@ -139,7 +138,7 @@ module _ {m i : ℕ} {lower : List ℤ → Outcome} {xs zs us : List ℤ} {answe
       ap (λ (d : ℕ). saidOf m d zs answer p) (add-one i)
       ∙ by-answer (λ (v : Verdict) (y : Outcome). Holds (2 ^ m) y us → saidOf m b zs v p ≡ share b (frontOf (2 ^ suc m) xs) y p)
       (λ d k l h.
-      let f : q < 2 ^ m = coset-here (hear-asks poll more refl same (omega arith) room-here .0) p u in
+      let f : q < 2 ^ m = number-lt (hear-asks poll more refl same (omega arith) room-here .0 .direction) p u in
       ap₂ (λ (y z : ℤ). signed (natAbs y) z) (decoded q f ∙ h .each q f)
       (same .same (bitXor p b) (omega (arith, xor-lt (suc m) p b u (omega arith)))
       ∙ sym (getD-take (2 ^ suc m) xs (bitXor p b) (pos 0) (xor-lt (suc m) p b u (omega arith)))))

@@ -7,10 +7,10 @@ use lib.IntN.{ℤ}
 use Rattle.rule.specs.Reading.{Outcome, accepted, refused}
 use Rattle.steps.specs.Answers.{Unlimited}
 use Rattle.confidences.specs.Confidences.{reading}
-use Rattle.confidences.specs.Counts.{Noise, noise-by, reading-noise}
+use Rattle.confidences.specs.Counts.{ByNoise, noise-by, reading-noise}
 
 -- no leaf limit is in a reading's own outcome
-noise-unlimited : (o : Outcome) → Noise o → Unlimited o
+noise-unlimited : (o : Outcome) → ByNoise o → Unlimited o
 noise-unlimited (accepted d k l) h = tt
 noise-unlimited (refused e k l) h =
     noise-by (λ (i : ℕ). (0 < i) × (i ≡ 12 → ⊥)) (omega arith, λ z. omega arith) (omega arith, λ z. omega arith) (omega arith, λ z. omega arith) e k l h

@@ -17,9 +17,8 @@ use Rattle.words.specs.Sum.{total}
 use Rattle.words.specs.SumLaws.{sum-ext, sum-same, sumℤ-ext}
 use Rattle.words.specs.Written.{Written}
 use Rattle.area.specs.Area.{at, SameFront}
-use Rattle.direction.specs.Cosets.{coset-lt}
 use Rattle.direction.specs.Direction.{cosetOf}
-use Rattle.direction.specs.Insert.{highest-top}
+use Rattle.direction.specs.Members.{number-lt}
 use Rattle.hadamard.specs.Correlation.{constantOf, signed}
 use Rattle.rule.specs.Counts.{leaf-leaves, order1-leaf}
 use Rattle.rule.specs.Reading.{Outcome, abstains, accepted, refused}
@@ -57,21 +56,16 @@ leaf-read {m} {c} {w} {v} {xs} {ys} hv room same r =
 -- ---- what a direction says, by its outcome
 
 module _ {m b c : ℕ} {ys : List ℤ} (projects : Projects m b c ys) where
-  pub coset-here : (p : ℕ) → p < 2 ^ suc m → cosetOf b p < 2 ^ m
-  coset-here p h =
-      coset-lt b (highest-top b (projects .some) (omega (arith, projects .under, pow-mono {i = suc m} {j = 10} (omega (arith, projects .few)))))
-      p m (projects .under) h
-
   -- where the outcome has a word, that stands by signs from c on
   pub word-is : (o : Outcome) (w : Bool) → Leaf (2 ^ m) o (partOf c (2 ^ m) ys) w → (p : ℕ) → p < 2 ^ suc m
       → wordAt w b c ys p ≡ share b (frontOf (2 ^ suc m) ys) o p
   word-is (accepted d k l) w read p h =
       let q : ℕ = cosetOf b p in
-      let u : q < 2 ^ m = coset-here p h in
+      let u : q < 2 ^ m = number-lt (projects .direction) p h in
       ap (λ (t : Bool). cond t (heardAt b c ys p) (pos 0)) (read .said)
       ∙ ap₂ signed
       (ap constantOf (sym (part-at (pos 0) c (2 ^ m) ys (projects .room) q u) ∙ ap (at (partOf c (2 ^ m) ys)) {x = q} {y = 0 + q} (omega arith)) ∙ read .word .each q u)
-      (sym (getD-take (2 ^ suc m) ys (bitXor p b) (pos 0) (xor-lt (suc m) p b h (projects .under))))
+      (sym (getD-take (2 ^ suc m) ys (bitXor p b) (pos 0) (xor-lt (suc m) p b h (projects .direction .under))))
   word-is (refused e k l) w read p h = ap (λ (t : Bool). cond t (heardAt b c ys p) (pos 0)) (read .said)
 
 pub silence-is : {n : ℕ} {ys : List ℤ} (o : Outcome) (w : Bool) → Leaf n o ys w → silence w ≡ abstains o
@@ -168,10 +162,8 @@ pub record Quad (m k j : ℕ) (w : ℕ → Bool) (xs ys : List ℤ) : Type 0 whe
 module _ {m k : ℕ} {xs : List ℤ} (some : 1 ≤ k) (under : 4 * k < 2 ^ suc m) (poll : Poll m (leaf m) (4 * k - 1) xs) where
   pub quad-asks : ProjectsFour m k xs
   quad-asks = record {
-    few = poll .round .few;
+    direction = record { small = poll .round .few; some = omega arith; under = under };
     blocks = enough m under;
-    some = some;
-    under = under;
     room = poll .round .room;
     values = poll .round .values;
   }
@@ -243,10 +235,8 @@ module _ {m k : ℕ} {w : ℕ → Bool} {xs ys : List ℤ} (quad : Quad m k 4 w 
   quad-words =
       let asks : ProjectsFour m k xs = quad-asks (quad .some) (quad .under) poll in (
         record {
-          few = asks .few;
+          direction = asks .direction;
           blocks = asks .blocks;
-          some = asks .some;
-          under = asks .under;
           room = omega (arith, asks .room, same .long);
           values = same-values same-here (asks .values);
         },

@@ -112,9 +112,7 @@ module _ {m : ℕ} {lower : List ℤ → Outcome} where
     -- what a direction asks
     pub poll-projects : {ys : List ℤ} {b c : ℕ} → SameFront (2 ^ suc m) xs ys → 0 < b → b < 2 ^ suc m → 4 * 2 ^ m ≤ c → c + 2 ^ m ≤ length xs → Projects m b c ys
     poll-projects same some under beyond room = record {
-      few = poll .round .few;
-      some = some;
-      under = under;
+      direction = record { small = poll .round .few; some = some; under = under };
       beyond = beyond;
       room = omega (arith, same .long);
       values = same-values same (poll .round .values);

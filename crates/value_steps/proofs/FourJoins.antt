@@ -23,7 +23,6 @@ use Rattle.projections.proofs.FourTurns.{FourTurn, block-room}
 use Rattle.value_steps.specs.Pairs.{ValuePair, ValueBlocks, pairJoint}
 use Rattle.value_steps.proofs.Joints.{joint-small}
 use Rattle.value_steps.proofs.ValueReads.{value-small, joint-kept}
-use Rattle.value_steps.proofs.Turns.{zeros}
 use Rattle.value_steps.proofs.FourTurns.{digits-ask, value-blocks, four-joint}
 
 -- ---- one pair
@@ -134,7 +133,7 @@ module _ {m k q : ℕ} {xs ys : List ℤ} where
 pub record FourJoin (m k : ℕ) (xs : List ℤ) (n h q p : ℕ) : Type 0 where
   pub asks : ProjectsFour m k xs
   pub size : n ≡ 2 ^ m
-  pub turn : (l : ℕ) → l < 4 → FourTurn m h (4 * k) l (zeros m) q p
+  pub turn : (l : ℕ) → l < 4 → FourTurn m h (4 * k) l q p
 
 module _ {m k n h q p : ℕ} {xs : List ℤ} (t : FourJoin m k xs n h q p) where
   pub number : q + 4 ≤ 2 ^ m

@@ -1,6 +1,6 @@
 -- A turn of `share_some` and `share_four`: of the cosets q to q + 3 of four directions, the members hear each other. Assumes nothing.
 use Prim.Native.Nat.{ℕ, suc, _+_, _*_, _%_, _^_, _≤_, _<_}
-use mathlib.Core.Path.{_≡_, sym, ap, ap₂, _∙_}
+use mathlib.Core.Path.{_≡_, sym, ap, ap₂, _∙_, subst}
 use mathlib.Core.Bool.{Bool}
 use mathlib.Core.List.{List}
 use native.Mathlib.Omega.{arith}
@@ -14,13 +14,13 @@ use Rattle.words.specs.Written.{Written}
 use Rattle.area.specs.Area.{at}
 use Rattle.area.specs.Places.{index-fits}
 use Rattle.direction.specs.Direction.{highest, insertZero, cosetOf}
+use Rattle.cosets.specs.SetBelow.{Blocks, SetBelow, among, apart-after, still, two-runs, set-none, set-all, set-more}
 use Rattle.projections.specs.FourLaws.{four-lt}
-use Rattle.projections.proofs.FourTurns.{FourTurn, block-room, four-members, four-partner, partner-place}
+use Rattle.projections.proofs.FourTurns.{FourTurn, block-room, four-members, four-partner, partner-place, coset-one, coset-two, back-two, four-blocks}
 use Rattle.confidences.specs.Confidences.{greatest}
 use Rattle.confidences.specs.Values.{ProjectsFour, Sums}
 use Rattle.value_steps.specs.Shares.{voiced, wordAt, FourHears, fourSaid, wordsAt}
-use Rattle.value_steps.proofs.Turns.{zeros, word-asks, SetBelow, set-none, set-all, Blocks, still, set-more}
-use Rattle.value_steps.proofs.FourTurns.{four-some, four-turn, coset-one, coset-two, back-two, four-blocks}
+use Rattle.value_steps.proofs.FourTurns.{four-turn}
 
 -- what stands in the area where the sums of the cosets below q are set, by the directions that have words
 pub record Sharing (m k : ℕ) (w : ℕ → Bool) (xs : List ℤ) (q : ℕ) (ys : List ℤ) : Type 0 where
@@ -33,7 +33,7 @@ share-none m k w xs = record { many = omega arith; whole = omega arith; so-far =
 
 pub share-all : {m k q : ℕ} {w : ℕ → Bool} {xs ys : List ℤ} → ProjectsFour m k xs → Sharing m k w xs q ys → 2 ^ m ≤ q
     → Written (pos 0) (2 ^ suc m) (2 ^ suc m) (λ p. at xs (2 ^ suc m + p) +ℤ wordsAt m k w xs p) xs ys
-share-all {m} {k} asks s l = set-all (word-asks m (4 * k) (asks .few) (four-some asks) (asks .under)) (s .so-far) l
+share-all asks s l = set-all (asks .direction) (s .so-far) l
 
 -- p is the representative of coset q, and ys the area before the turn
 pub record FourShare (m k : ℕ) (w : ℕ → Bool) (xs : List ℤ) (n h q p : ℕ) (ys : List ℤ) : Type 0 where
@@ -60,14 +60,14 @@ module _ {m k n h q p : ℕ} {w : ℕ → Bool} {xs ys : List ℤ} (t : FourShar
 
   open Sharing (t .before) using (so-far)
 
-  turn : (l : ℕ) → l < 4 → FourTurn m h (4 * k) l (zeros m) q p
+  turn : (l : ℕ) → l < 4 → FourTurn m h (4 * k) l q p
   turn l hl = four-turn (t .asks) l hl (t .top) (t .below) (t .before .whole) (t .inserted)
 
-  plain : FourTurn m h (4 * k) 0 (zeros m) q p
+  plain : FourTurn m h (4 * k) 0 q p
   plain = turn 0 (omega arith)
 
   blocks : Blocks m (4 * k) 4 q p z
-  blocks = four-blocks plain (four-some (t .asks))
+  blocks = subst (λ (b : ℕ). Blocks m b 4 q p z) (omega arith) (four-blocks plain)
 
   pub number : q + 4 ≤ 2 ^ m
   number = block-room plain
@@ -112,11 +112,17 @@ module _ {m k n h q p : ℕ} {w : ℕ → Bool} {xs ys : List ℤ} (t : FourShar
 
   -- ---- the representatives, and then the other members
 
-  -- the sum of a member, before it hears
-  sum-ahead : (r i : ℕ) → r + 4 ≤ 2 ^ suc m → i < 4 → cosetOf (4 * k) (r + i) ≡ q + i → at ys (2 * n + r + i) ≡ at xs (2 ^ suc m + (r + i))
-  sum-ahead r i l hi e = ap (at ys) {x = 2 * n + r + i} {y = 2 ^ suc m + (r + i)} (omega (arith, t .size)) ∙ so-far .ahead (r + i) (omega arith) (omega arith)
+  ahead-one : (i : ℕ) → i < 4 → q ≤ cosetOf (4 * k) (p + i)
+  ahead-one i hi = blocks .one (p + i) (among p 4 i hi) .least
 
-  few : (r i : ℕ) → r + 4 ≤ 2 ^ suc m → i < 4 → cosetOf (4 * k) (r + i) ≡ q + i → natAbs (at ys (2 * n + r + i)) < 2 ^ 29
+  ahead-two : (i : ℕ) → i < 4 → q ≤ cosetOf (4 * k) (z + i)
+  ahead-two i hi = blocks .two (z + i) (among z 4 i hi) .least
+
+  -- the sum of a member, before it hears
+  sum-ahead : (r i : ℕ) → r + 4 ≤ 2 ^ suc m → i < 4 → q ≤ cosetOf (4 * k) (r + i) → at ys (2 * n + r + i) ≡ at xs (2 ^ suc m + (r + i))
+  sum-ahead r i l hi e = ap (at ys) {x = 2 * n + r + i} {y = 2 ^ suc m + (r + i)} (omega (arith, t .size)) ∙ so-far .ahead (r + i) (omega arith) e
+
+  few : (r i : ℕ) → r + 4 ≤ 2 ^ suc m → i < 4 → q ≤ cosetOf (4 * k) (r + i) → natAbs (at ys (2 * n + r + i)) < 2 ^ 29
   few r i l hi e = rw (sum-ahead r i l hi e) (t .sums .small (r + i) (omega arith))
 
   pub first-asks : FourHears n (4 * n + q) z (2 * n + p) ys
@@ -127,7 +133,7 @@ module _ {m k n h q p : ℕ} {w : ℕ → Bool} {xs ys : List ℤ} (t : FourShar
       small = λ i hi. value ys (so-far .below) (so-far .above) (z + i) (omega (arith, blocks .partner));
     };
     room = omega (arith, t .asks .room, so-far .long, t .size, blocks .place);
-    few = λ i hi. few p i (blocks .place) hi (blocks .one i hi);
+    few = λ i hi. few p i (blocks .place) hi (ahead-one i hi);
   }
 
   module _ {us : List ℤ} (first : Written (pos 0) (2 * n + p) 4 (λ i. at ys (2 * n + p + i) +ℤ fourSaid w (λ _. i) n (4 * n + q) z ys i) ys us) where
@@ -138,7 +144,7 @@ module _ {m k n h q p : ℕ} {w : ℕ → Bool} {xs ys : List ℤ} (t : FourShar
     signs-kept j l = first .above j (omega (arith, t .size, blocks .place)) ∙ so-far .above j l
 
     sum-kept : (i : ℕ) → i < 4 → at us (2 * n + z + i) ≡ at ys (2 * n + z + i)
-    sum-kept i hi = still {y = 2 * n + z} blocks first (omega (arith, t .size)) (omega (arith, t .size)) i hi
+    sum-kept = still (apart-after (2 * n) (blocks .apart)) first
 
     pub second-asks : FourHears n (4 * n + q) p (2 * n + z) us
     second-asks = record {
@@ -148,7 +154,7 @@ module _ {m k n h q p : ℕ} {w : ℕ → Bool} {xs ys : List ℤ} (t : FourShar
         small = λ i hi. value us front-kept signs-kept (p + i) (omega (arith, blocks .place));
       };
       room = omega (arith, t .asks .room, first .long, so-far .long, t .size, blocks .partner);
-      few = λ i hi. rw (sum-kept i hi) (few z i (blocks .partner) hi (blocks .two i hi));
+      few = λ i hi. rw (sum-kept i hi) (few z i (blocks .partner) hi (ahead-two i hi));
     }
 
     pub share-more : {vs : List ℤ} → Written (pos 0) (2 * n + z) 4 (λ i. at us (2 * n + z + i) +ℤ fourSaid w (bitXor i) n (4 * n + q) p us i) us vs
@@ -156,7 +162,7 @@ module _ {m k n h q p : ℕ} {w : ℕ → Bool} {xs ys : List ℤ} (t : FourShar
     share-more second = record {
       many = number;
       whole = omega (arith, t .before .whole);
-      so-far = set-more blocks so-far first second (omega (arith, t .size)) (omega (arith, t .size))
-          (λ i hi. ap₂ _+ℤ_ (sum-ahead p i (blocks .place) hi (blocks .one i hi)) (heard-one ys (so-far .below) (so-far .above) i hi))
-          (λ i hi. ap₂ _+ℤ_ (sum-kept i hi ∙ sum-ahead z i (blocks .partner) hi (blocks .two i hi)) (heard-two us front-kept signs-kept i hi));
+      so-far = set-more blocks so-far (two-runs (apart-after (2 * n) (blocks .apart)) first second) (omega (arith, t .size)) (omega (arith, t .size))
+          (λ i hi. ap₂ _+ℤ_ (sum-ahead p i (blocks .place) hi (ahead-one i hi)) (heard-one ys (so-far .below) (so-far .above) i hi))
+          (λ i hi. ap₂ _+ℤ_ (sum-kept i hi ∙ sum-ahead z i (blocks .partner) hi (ahead-two i hi)) (heard-two us front-kept signs-kept i hi));
     }

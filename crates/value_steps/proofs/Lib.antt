@@ -1,7 +1,6 @@
 -- What the proofs share.
 mod Joints
 mod ValueReads
-mod Turns
 mod ProjectTurns
 mod ShareTurns
 mod FourTurns

@@ -6,7 +6,7 @@ use lib.Bits.{bitXor}
 use lib.IntN.{ℤ, natAbs}
 use Rattle.area.specs.Area.{at}
 use Rattle.area.specs.Numbers.{stored}
-use Rattle.cosets.proofs.Turns.{Members}
+use Rattle.direction.specs.Members.{Members}
 use Rattle.confidences.specs.Confidences.{greatest, joint, projectValues}
 use Rattle.confidences.specs.Rounds.{at-project}
 use Rattle.confidences.specs.Values.{Projects, frontOf}

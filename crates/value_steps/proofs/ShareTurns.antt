@@ -2,25 +2,23 @@
 use Prim.Native.Nat.{ℕ, suc, _+_, _*_, _^_, _≤_, _<_}
 use mathlib.Core.Path.{_≡_, refl, sym, ap, ap₂, _∙_}
 use mathlib.Core.List.{List}
-use mathlib.Core.Logic.{_≢_, _⊎_, inl, inr, ⊎-elim}
-use native.Mathlib.Decide.{decLt}
 use native.Mathlib.Nat.{add-zero}
 use native.Mathlib.Omega.{arith}
-use lib.Bits.{bitXor, xor-self, xor-zero-l}
+use lib.Bits.{bitXor}
 use lib.ListN.{length}
 use lib.IntN.{ℤ, pos, natAbs, _+ℤ_}
 use mir.Syntax.{w64}
 use mir.Val.{Fits}
 use Rattle.words.specs.Written.{Written}
-use Rattle.words.specs.Xor.{xor-assoc, xor-twice}
+use Rattle.words.specs.Xor.{xor-twice}
 use Rattle.area.specs.Area.{at}
 use Rattle.area.specs.Places.{index-fits}
 use Rattle.direction.specs.Direction.{cosetOf}
-use Rattle.cosets.proofs.Turns.{Members, number-one, number-two, only-members}
+use Rattle.direction.specs.Members.{Members, number-one, number-two}
+use Rattle.cosets.specs.SetBelow.{Blocks, SetBelow, apart-after, still, two-runs, pair-blocks, set-more}
 use Rattle.confidences.specs.Confidences.{greatest}
 use Rattle.confidences.specs.Values.{Projects, Sums, heardAt}
 use Rattle.value_steps.specs.Shares.{said, Hears}
-use Rattle.value_steps.proofs.Turns.{values-ask, SetBelow, Blocks, still, set-more}
 
 -- p is the representative of coset q, and ys the area before the turn
 pub record Turn (m b c : ℕ) (xs : List ℤ) (n q p : ℕ) (ys : List ℤ) : Type 0 where
@@ -43,29 +41,13 @@ module _ {m b c n q p : ℕ} {xs ys : List ℤ} (t : Turn m b c xs n q p ys) whe
   o = bitXor p b
 
   one-of : cosetOf b p ≡ q
-  one-of = number-one (values-ask (t .asks)) (t .coset)
+  one-of = number-one (t .asks .direction) (t .coset)
 
   two-of : cosetOf b o ≡ q
-  two-of = number-two (values-ask (t .asks)) (t .coset)
-
-  two-places : o ≢ p
-  two-places e =
-      let none : b ≡ 0 = sym (xor-zero-l b) ∙ ap (λ (x : ℕ). bitXor x b) (sym (xor-self p)) ∙ xor-assoc p p b ∙ ap (bitXor p) e ∙ xor-self p in
-      omega (arith, t .asks .some)
-
-  members-only : (r i : ℕ) → i < 1 → cosetOf b r ≡ q + i → (r ≡ p + i) ⊎ (r ≡ o + i)
-  members-only r i hi e =
-      ⊎-elim (λ (k : r ≡ p). inl (omega arith)) (λ (k : r ≡ o). inr (omega arith)) (only-members (values-ask (t .asks)) (t .coset) r (omega arith))
+  two-of = number-two (t .asks .direction) (t .coset)
 
   blocks : Blocks m b 1 q p o
-  blocks = record {
-    place = omega (arith, t .coset .place);
-    partner = omega (arith, t .coset .partner);
-    apart = elim (decLt p o) [ yes k ↦ inl (omega arith) | no k ↦ inr (omega (arith, two-places)) ];
-    one = λ i hi. ap (cosetOf b) (omega arith) ∙ one-of ∙ omega arith;
-    two = λ i hi. ap (cosetOf b) (omega arith) ∙ two-of ∙ omega arith;
-    only = members-only;
-  }
+  blocks = pair-blocks (t .asks .direction) (t .coset)
 
   room : c + q < length ys
   room = omega (arith, t .so-far .long, t .asks .room, t .coset .number)
@@ -115,7 +97,7 @@ module _ {m b c n q p : ℕ} {xs ys : List ℤ} (t : Turn m b c xs n q p ys) whe
     value-kept = first .below p (omega (arith, t .coset .place, t .size))
 
     sum-kept : at us (2 * n + o) ≡ at ys (2 * n + o)
-    sum-kept = rw (add-zero (2 * n + o)) at (still {y = 2 * n + o} blocks first (omega (arith, t .size)) (omega (arith, t .size)) 0 (omega arith))
+    sum-kept = rw (add-zero (2 * n + o)) at (still (apart-after (2 * n) (blocks .apart)) first 0 (omega arith))
 
     pub second-asks : Hears (c + q) p (2 * n + o) us
     second-asks = record {
@@ -130,6 +112,6 @@ module _ {m b c n q p : ℕ} {xs ys : List ℤ} (t : Turn m b c xs n q p ys) whe
 
     pub share-more : {vs : List ℤ} → Written (pos 0) (2 * n + o) 1 (λ _. at us (2 * n + o) +ℤ said (at us (c + q)) (at us p)) us vs → SetBelow m b f xs (q + 1) vs
     share-more second =
-        set-more blocks (t .so-far) first second (omega (arith, t .size)) (omega (arith, t .size))
+        set-more blocks (t .so-far) (two-runs (apart-after (2 * n) (blocks .apart)) first second) (omega (arith, t .size)) (omega (arith, t .size))
         (λ i hi. heard p o (t .coset .place) (t .coset .partner) one-of refl ∙ ap f (omega arith))
         (λ i hi. rw (sum-kept, sign-kept, value-kept) (heard o p (t .coset .partner) (t .coset .place) two-of (xor-twice p b) ∙ ap f (omega arith)))

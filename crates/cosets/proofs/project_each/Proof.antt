@@ -7,7 +7,8 @@ use Rattle.words.specs.Word.{bit}
 use Rattle.words.specs.Written.{Written, written-none, written-more, written-to}
 use Rattle.area.specs.Area.{wordOf}
 use Rattle.direction.specs.Direction.{project}
-use Rattle.cosets.proofs.Turns.{Members, members, number-le, direction-lt, pair-value}
+use Rattle.direction.specs.Members.{Members, members, number-le, direction-lt}
+use Rattle.cosets.proofs.Turns.{pair-value}
 use Rattle.cosets.proofs.project_each.Statement.{statement}
 use Rattle.cosets.proofs.project_each.Tie as tie
 
@@ -22,18 +23,18 @@ size-requires : tie.Need-size-requires Inv-loop μ-loop
 size-requires c κs = search needs
 
 highest-bit-requires : tie.Need-highest-bit-requires Inv-loop μ-loop
-highest-bit-requires c κs = (c .before .pre .some, direction-lt (c .before .pre))
+highest-bit-requires c κs = (c .before .pre .direction .some, direction-lt (c .before .pre .direction))
 
 loop-holds : tie.Need-loop-holds Inv-loop μ-loop
 loop-holds c = (omega arith, written-none _ _ _ _)
 
 insert-zero-requires : tie.Need-insert-zero-requires Inv-loop μ-loop
-insert-zero-requires c κs = (omega arith, omega (arith, number-le (c .before .before .before .before .pre)))
+insert-zero-requires c κs = (omega arith, omega (arith, number-le (c .before .before .before .before .pre .direction)))
 
 -- the coset of this turn
 coset : (c : tie.After-insert-zero Inv-loop μ-loop)
     → Members (c .before .before .before .before .before .args .m) (c .before .before .before .before .before .args .b) (c .before .before .loop .q) (c .insert-zero .result)
-coset c = members (c .before .before .before .before .before .pre) (omega arith) (c .before .before .before .highest-bit .ensures .0) (c .insert-zero .ensures .0)
+coset c = members (c .before .before .before .before .before .pre .direction) (omega arith) (c .before .before .before .highest-bit .ensures .0) (c .insert-zero .ensures .0)
 
 mul-area : tie.Need-mul-area Inv-loop μ-loop
 mul-area c = search needs

@@ -9,8 +9,9 @@ use mir.Syntax.{w64}
 use mir.Val.{Fits}
 use borrow.Author.Needs.{needs}
 use Rattle.area.specs.Places.{Place, place, index-fits}
-use Rattle.cosets.proofs.Turns.{members, number-le, direction-lt}
-use Rattle.cosets.proofs.VoteLoops.{VotedBelow, voted-none, voted-all, Turn, one-fits, two-fits, voted-more}
+use Rattle.direction.specs.Members.{members, number-le, direction-lt}
+use Rattle.cosets.specs.SetBelow.{set-none, set-all}
+use Rattle.cosets.proofs.VoteLoops.{VotedBelow, Turn, one-fits, two-fits, voted-more}
 use Rattle.cosets.proofs.vote_each.Statement.{statement}
 use Rattle.cosets.proofs.vote_each.Tie as tie
 
@@ -24,13 +25,13 @@ size-requires : tie.Need-size-requires Inv-loop μ-loop
 size-requires c κs = search needs
 
 highest-bit-requires : tie.Need-highest-bit-requires Inv-loop μ-loop
-highest-bit-requires c κs = (c .before .pre .0 .some, direction-lt (c .before .pre .0))
+highest-bit-requires c κs = (c .before .pre .0 .direction .some, direction-lt (c .before .pre .0 .direction))
 
 loop-holds : tie.Need-loop-holds Inv-loop μ-loop
-loop-holds c = (omega arith, voted-none _ _ _)
+loop-holds c = (omega arith, set-none _ _ _ _)
 
 insert-zero-requires : tie.Need-insert-zero-requires Inv-loop μ-loop
-insert-zero-requires c κs = (omega arith, omega (arith, number-le (c .before .before .before .before .pre .0)))
+insert-zero-requires c κs = (omega arith, omega (arith, number-le (c .before .before .before .before .pre .0 .direction)))
 
 -- this turn
 turn : (c : tie.After-insert-zero Inv-loop μ-loop)
@@ -44,7 +45,7 @@ turn c =
       tally = s .pre .1 .0;
       projection = s .pre .1 .1;
       size = c .before .before .before .before .size .ensures;
-      coset = members (s .pre .0) (omega arith) (c .before .before .before .highest-bit .ensures .0) (c .insert-zero .ensures .0);
+      coset = members (s .pre .0 .direction) (omega arith) (c .before .before .before .highest-bit .ensures .0) (c .insert-zero .ensures .0);
       voted = c .before .before .loop .inv .1;
     }
 
@@ -155,7 +156,7 @@ same-length : tie.Need-same-length Inv-loop μ-loop
 same-length c = c .before .loop .inv .1 .long
 
 returns : tie.Need-returns Inv-loop μ-loop
-returns c = voted-all (c .before .before .before .before .pre .0) (c .before .loop .inv .1) (omega arith)
+returns c = set-all (c .before .before .before .before .pre .0 .direction) (c .before .loop .inv .1) (omega arith)
 
 pub vote-each-spec : {M : Type 1} → statement M
 vote-each-spec =

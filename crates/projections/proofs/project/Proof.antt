@@ -1,13 +1,13 @@
 -- `projections::project` meets its contract: by cosets below 4, and by blocks of 4 cosets from there on. Assumes nothing.
 use borrow.Author.Needs.{needs}
 use native.Mathlib.Omega.{arith}
-use Rattle.cosets.proofs.Turns.{direction-lt}
+use Rattle.direction.specs.Members.{direction-lt}
 use Rattle.projections.proofs.FourCalls.{project-asks, projected-by}
 use Rattle.projections.proofs.project.Statement.{statement}
 use Rattle.projections.proofs.project.Tie as tie
 
 highest-bit-requires : tie.Need-highest-bit-requires
-highest-bit-requires c κs = (c .pre .some, direction-lt (c .pre))
+highest-bit-requires c κs = (c .pre .direction .some, direction-lt (c .pre .direction))
 
 project-each-requires : tie.Need-project-each-requires
 project-each-requires c κs = search needs

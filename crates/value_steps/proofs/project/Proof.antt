@@ -5,10 +5,9 @@ use lib.IntN.{pos}
 use borrow.Author.Needs.{needs}
 use Rattle.words.specs.Written.{Written, written-none, written-more, written-to}
 use Rattle.area.specs.Area.{at}
-use Rattle.cosets.proofs.Turns.{Members, members, number-le, direction-lt}
+use Rattle.direction.specs.Members.{Members, members, number-le, direction-lt}
 use Rattle.confidences.specs.Confidences.{projectValues}
 use Rattle.confidences.specs.Values.{frontOf}
-use Rattle.value_steps.proofs.Turns.{values-ask}
 use Rattle.value_steps.proofs.ProjectTurns.{pair-asks, pair-is}
 use Rattle.value_steps.proofs.project.Statement.{statement}
 use Rattle.value_steps.proofs.project.Tie as tie
@@ -23,18 +22,18 @@ size-requires : tie.Need-size-requires Inv-loop μ-loop
 size-requires c κs = search needs
 
 highest-bit-requires : tie.Need-highest-bit-requires Inv-loop μ-loop
-highest-bit-requires c κs = (c .before .pre .some, direction-lt (values-ask (c .before .pre)))
+highest-bit-requires c κs = (c .before .pre .direction .some, direction-lt (c .before .pre .direction))
 
 loop-holds : tie.Need-loop-holds Inv-loop μ-loop
 loop-holds c = (omega arith, written-none _ _ _ _)
 
 insert-zero-requires : tie.Need-insert-zero-requires Inv-loop μ-loop
-insert-zero-requires c κs = (omega arith, omega (arith, number-le (values-ask (c .before .before .before .before .pre))))
+insert-zero-requires c κs = (omega arith, omega (arith, number-le (c .before .before .before .before .pre .direction)))
 
 -- the coset of this turn
 coset : (c : tie.After-insert-zero Inv-loop μ-loop)
     → Members (c .before .before .before .before .before .args .m) (c .before .before .before .before .before .args .b) (c .before .before .loop .q) (c .insert-zero .result)
-coset c = members (values-ask (c .before .before .before .before .before .pre)) (omega arith) (c .before .before .before .highest-bit .ensures .0) (c .insert-zero .ensures .0)
+coset c = members (c .before .before .before .before .before .pre .direction) (omega arith) (c .before .before .before .highest-bit .ensures .0) (c .insert-zero .ensures .0)
 
 mul-y : tie.Need-mul-y Inv-loop μ-loop
 mul-y c = search needs

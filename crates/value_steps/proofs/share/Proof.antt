@@ -5,9 +5,9 @@ use lib.Bits.{bitXor}
 use lib.IntN.{_+ℤ_}
 use borrow.Author.Needs.{needs}
 use Rattle.area.specs.Area.{at}
-use Rattle.cosets.proofs.Turns.{members, number-le, direction-lt}
+use Rattle.direction.specs.Members.{members, number-le, direction-lt}
+use Rattle.cosets.specs.SetBelow.{SetBelow, set-none, set-all}
 use Rattle.confidences.specs.Values.{heardAt}
-use Rattle.value_steps.proofs.Turns.{values-ask, SetBelow, set-none, set-all}
 use Rattle.value_steps.proofs.ShareTurns.{Turn, Rooms, rooms, first-asks, second-asks, share-more}
 use Rattle.value_steps.proofs.share.Statement.{statement}
 use Rattle.value_steps.proofs.share.Tie as tie
@@ -22,13 +22,13 @@ size-requires : tie.Need-size-requires Inv-loop μ-loop
 size-requires c κs = search needs
 
 highest-bit-requires : tie.Need-highest-bit-requires Inv-loop μ-loop
-highest-bit-requires c κs = (c .before .pre .0 .some, direction-lt (values-ask (c .before .pre .0)))
+highest-bit-requires c κs = (c .before .pre .0 .direction .some, direction-lt (c .before .pre .0 .direction))
 
 loop-holds : tie.Need-loop-holds Inv-loop μ-loop
 loop-holds c = (omega arith, set-none _ _ _ _)
 
 insert-zero-requires : tie.Need-insert-zero-requires Inv-loop μ-loop
-insert-zero-requires c κs = (omega arith, omega (arith, number-le (values-ask (c .before .before .before .before .pre .0))))
+insert-zero-requires c κs = (omega arith, omega (arith, number-le (c .before .before .before .before .pre .0 .direction)))
 
 abbrev start : tie.After-insert-zero Inv-loop μ-loop → tie.Start Inv-loop μ-loop
 start c = c .before .before .before .before .before
@@ -41,7 +41,7 @@ turn c = record {
   asks = start c .pre .0;
   sums = start c .pre .1;
   size = c .before .before .before .before .size .ensures;
-  coset = members (values-ask (start c .pre .0)) (omega arith) (c .before .before .before .highest-bit .ensures .0) (c .insert-zero .ensures .0);
+  coset = members (start c .pre .0 .direction) (omega arith) (c .before .before .before .highest-bit .ensures .0) (c .insert-zero .ensures .0);
   so-far = c .before .before .loop .inv .1;
 }
 
@@ -88,7 +88,7 @@ same-length : tie.Need-same-length Inv-loop μ-loop
 same-length c = c .before .loop .inv .1 .long
 
 returns : tie.Need-returns Inv-loop μ-loop
-returns c = set-all (values-ask (c .before .before .before .before .pre .0)) (c .before .loop .inv .1) (omega arith)
+returns c = set-all (c .before .before .before .before .pre .0 .direction) (c .before .loop .inv .1) (omega arith)
 
 pub share-spec : {M : Type 1} → statement M
 share-spec =

@@ -1,13 +1,13 @@
 -- `votes::add_votes` meets its contract: by cosets below 4, and by blocks of 4 cosets from there on. Assumes nothing.
 use borrow.Author.Needs.{needs}
 use native.Mathlib.Omega.{arith}
-use Rattle.cosets.proofs.Turns.{direction-lt}
+use Rattle.direction.specs.Members.{direction-lt}
 use Rattle.votes.proofs.VoteCalls.{vote-asks, voted-by}
 use Rattle.votes.proofs.add_votes.Statement.{statement}
 use Rattle.votes.proofs.add_votes.Tie as tie
 
 highest-bit-requires : tie.Need-highest-bit-requires
-highest-bit-requires c κs = (c .pre .0 .some, direction-lt (c .pre .0))
+highest-bit-requires c κs = (c .pre .0 .direction .some, direction-lt (c .pre .0 .direction))
 
 vote-each-requires : tie.Need-vote-each-requires
 vote-each-requires c κs = search needs

@@ -3,8 +3,9 @@ use Prim.Native.Nat.{_+_, _-_, _%_, _^_, _≤_}
 use mathlib.Core.Path.{_≡_}
 use native.Mathlib.Omega.{arith}
 use borrow.Author.Needs.{needs}
-use Rattle.cosets.proofs.Turns.{number-le}
-use Rattle.cosets.proofs.VoteLoops.{VotedBelow, voted-none, voted-all}
+use Rattle.direction.specs.Members.{number-le}
+use Rattle.cosets.specs.SetBelow.{set-none, set-all}
+use Rattle.cosets.proofs.VoteLoops.{VotedBelow}
 use Rattle.projections.proofs.FourTurns.{highest-le, block-room}
 use Rattle.votes.proofs.FourLoops.{VoteTurn, four-asks, voted-four}
 use Rattle.votes.proofs.vote_fours.Statement.{statement}
@@ -20,10 +21,10 @@ size-requires : tie.Need-size-requires Inv-loop μ-loop
 size-requires c κs = search needs
 
 loop-holds : tie.Need-loop-holds Inv-loop μ-loop
-loop-holds c = (omega arith, omega arith, voted-none _ _ _)
+loop-holds c = (omega arith, omega arith, set-none _ _ _ _)
 
 insert-zero-requires : tie.Need-insert-zero-requires Inv-loop μ-loop
-insert-zero-requires c κs = (omega (arith, highest-le (c .before .before .before .pre .0) (c .before .before .before .pre .1 .0)), omega (arith, number-le (c .before .before .before .pre .1 .0)))
+insert-zero-requires c κs = (omega (arith, highest-le (c .before .before .before .pre .0) (c .before .before .before .pre .1 .0 .direction)), omega (arith, number-le (c .before .before .before .pre .1 .0 .direction)))
 
 -- the cosets of this turn
 turn : (c : tie.After-insert-zero Inv-loop μ-loop)
@@ -31,7 +32,8 @@ turn : (c : tie.After-insert-zero Inv-loop μ-loop)
 turn c =
     let s = c .before .before .before .before in
     record {
-      turn = record { fours = s .pre .0; asks = s .pre .1 .0; number = omega arith; whole = c .before .before .loop .inv .1; inserted = c .insert-zero .ensures .0 };
+      turn = record { fours = s .pre .0; direction = s .pre .1 .0 .direction; number = omega arith; whole = c .before .before .loop .inv .1; inserted = c .insert-zero .ensures .0 };
+      asks = s .pre .1 .0;
       tally = s .pre .1 .1 .0;
       projection = s .pre .1 .1 .1;
       size = c .before .before .before .size .ensures;
@@ -56,7 +58,7 @@ same-length : tie.Need-same-length Inv-loop μ-loop
 same-length c = search needs
 
 returns : tie.Need-returns Inv-loop μ-loop
-returns c = voted-all (c .before .before .before .pre .1 .0) (c .before .loop .inv .2) (omega arith)
+returns c = set-all (c .before .before .before .pre .1 .0 .direction) (c .before .loop .inv .2) (omega arith)
 
 pub vote-fours-spec : {M : Type 1} → statement M
 vote-fours-spec =

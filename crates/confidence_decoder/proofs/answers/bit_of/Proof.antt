@@ -6,7 +6,7 @@ use lib.IntN.{ℤ, pos, negsuc}
 use lib.Signed.{ltZ}
 use borrow.Author.Tests.{ltb-true}
 use Rattle.hadamard.specs.Correlation.{constantOf}
-use Rattle.value_checks.specs.Numbers.{sixteen-eq}
+use Rattle.confidence_decoder.specs.Numbers.{sixteen-eq}
 use Rattle.confidence_decoder.proofs.answers.bit_of.Statement.{statement}
 use Rattle.confidence_decoder.proofs.answers.bit_of.Tie as tie
 

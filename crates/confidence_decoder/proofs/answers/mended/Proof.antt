@@ -13,7 +13,7 @@ use Rattle.area.specs.Area.{at}
 use Rattle.hadamard.specs.Correlation.{constantOf}
 use Rattle.confidences.specs.Confidences.{signsOf}
 use Rattle.confidences.specs.Rounds.{bit-signs, signs-word}
-use Rattle.value_checks.specs.Numbers.{sixteen-eq}
+use Rattle.confidence_decoder.specs.Numbers.{sixteen-eq}
 use Rattle.confidence_decoder.proofs.answers.mended.Statement.{statement}
 use Rattle.confidence_decoder.proofs.answers.mended.Tie as tie
 

@@ -6,7 +6,7 @@ use lib.IntN.{pos}
 use borrow.Author.Needs.{needs}
 use Rattle.words.specs.Written.{Written, written-none, written-more, written-to}
 use Rattle.area.specs.Area.{at}
-use Rattle.value_checks.specs.Numbers.{sixteen-fits, sixteen-stored}
+use Rattle.confidence_decoder.specs.Numbers.{sixteen-fits, sixteen-stored}
 use Rattle.confidence_decoder.proofs.runs.load.Statement.{statement}
 use Rattle.confidence_decoder.proofs.runs.load.Tie as tie
 

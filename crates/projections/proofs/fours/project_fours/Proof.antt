@@ -8,7 +8,7 @@ use Rattle.words.specs.Word.{bit}
 use Rattle.words.specs.Written.{Written, written-none, written-run, written-to}
 use Rattle.area.specs.Area.{wordOf}
 use Rattle.direction.specs.Direction.{project}
-use Rattle.cosets.proofs.Turns.{number-le}
+use Rattle.direction.specs.Members.{number-le}
 use Rattle.projections.proofs.FourTurns.{FourTurn, highest-le, block-room, two-blocks, four-value}
 use Rattle.projections.proofs.fours.project_fours.Statement.{statement}
 use Rattle.projections.proofs.fours.project_fours.Tie as tie
@@ -27,14 +27,14 @@ loop-holds : tie.Need-loop-holds Inv-loop μ-loop
 loop-holds c = (omega arith, omega arith, written-none _ _ _ _)
 
 insert-zero-requires : tie.Need-insert-zero-requires Inv-loop μ-loop
-insert-zero-requires c κs = (omega (arith, highest-le (c .before .before .before .pre .0) (c .before .before .before .pre .1)), omega (arith, number-le (c .before .before .before .pre .1)))
+insert-zero-requires c κs = (omega (arith, highest-le (c .before .before .before .pre .0) (c .before .before .before .pre .1 .direction)), omega (arith, number-le (c .before .before .before .pre .1 .direction)))
 
 -- the cosets of this turn
 turn : (c : tie.After-insert-zero Inv-loop μ-loop)
-    → FourTurn (c .before .before .before .before .args .m) (c .before .before .before .before .args .h) (c .before .before .before .before .args .w) (c .before .before .before .before .args .l) (c .before .before .before .before .args .area .now) (c .before .before .loop .q) (c .insert-zero .result)
+    → FourTurn (c .before .before .before .before .args .m) (c .before .before .before .before .args .h) (c .before .before .before .before .args .w) (c .before .before .before .before .args .l) (c .before .before .loop .q) (c .insert-zero .result)
 turn c = record {
   fours = c .before .before .before .before .pre .0;
-  asks = c .before .before .before .before .pre .1;
+  direction = c .before .before .before .before .pre .1 .direction;
   number = omega arith;
   whole = c .before .before .loop .inv .1;
   inserted = c .insert-zero .ensures .0;
@@ -49,7 +49,7 @@ add-project-four c = search needs
 project-four-requires : tie.Need-project-four-requires Inv-loop μ-loop
 project-four-requires c κs =
     let r = c .before .before .before .loop in
-    two-blocks (turn (c .before)) (r .area) (r .inv .2 .long) (λ j k. r .inv .2 .below j (omega arith)) _ (omega (arith, block-room (turn (c .before))))
+    two-blocks (turn (c .before)) (c .before .before .before .before .before .pre .1) (r .area) (r .inv .2 .long) (λ j k. r .inv .2 .below j (omega arith)) _ (omega (arith, block-room (turn (c .before))))
 
 add-q : tie.Need-add-q Inv-loop μ-loop
 add-q c = search needs
@@ -63,7 +63,7 @@ loop-again c =
     let r = c .before .before .before .before .before .loop in (
       omega (arith, block-room t),
       omega arith,
-      written-run (r .inv .2) (c .before .project-four .ensures) (omega arith) (four-value t (r .area) (r .inv .2 .long) (λ j k. r .inv .2 .below j (omega arith))),
+      written-run (r .inv .2) (c .before .project-four .ensures) (omega arith) (four-value t (c .before .before .before .before .before .before .before .pre .1) (r .area) (r .inv .2 .long) (λ j k. r .inv .2 .below j (omega arith))),
     )
 
 same-length : tie.Need-same-length Inv-loop μ-loop

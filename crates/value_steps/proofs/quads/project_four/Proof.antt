@@ -8,7 +8,8 @@ use lib.IntN.{ℤ}
 use borrow.Author.Needs.{needs}
 use mir.Syntax.{w64}
 use mir.Val.{Fits}
-use Rattle.value_steps.proofs.FourTurns.{four-number-le, four-some, four-small, four-turn}
+use Rattle.direction.specs.Members.{number-le, direction-lt}
+use Rattle.value_steps.proofs.FourTurns.{four-turn}
 use Rattle.value_steps.proofs.FourJoins.{Joining, FourJoin, number, run-fits, join-asks, joining-none, joining-more, joining-next, joining-all}
 use Rattle.value_steps.proofs.quads.project_four.Statement.{statement}
 use Rattle.value_steps.proofs.quads.project_four.Tie as tie
@@ -26,13 +27,13 @@ mul-w : tie.Need-mul-w Inv-loop μ-loop
 mul-w c = search needs
 
 highest-bit-requires : tie.Need-highest-bit-requires Inv-loop μ-loop
-highest-bit-requires c κs = (four-some (c .before .pre), four-small (c .before .pre))
+highest-bit-requires c κs = (c .before .pre .direction .some, direction-lt (c .before .pre .direction))
 
 loop-holds : tie.Need-loop-holds Inv-loop μ-loop
 loop-holds c = (omega arith, omega arith, joining-none _ _ _)
 
 insert-zero-requires : tie.Need-insert-zero-requires Inv-loop μ-loop
-insert-zero-requires c κs = (omega (arith, c .before .before .highest-bit .ensures .1), omega (arith, four-number-le (c .before .before .before .before .pre)))
+insert-zero-requires c κs = (omega (arith, c .before .before .highest-bit .ensures .1), omega (arith, number-le (c .before .before .before .before .pre .direction)))
 
 -- ---- a turn
 

@@ -10,7 +10,7 @@ use Rattle.words.specs.Written.{written-as}
 use Rattle.area.specs.Area.{at}
 use Rattle.area.specs.Places.{index-fits}
 use Rattle.value_steps.specs.Shares.{fourWords, all-heard}
-use Rattle.value_steps.proofs.FourTurns.{four-number-le, four-some, four-small}
+use Rattle.direction.specs.Members.{number-le, direction-lt}
 use Rattle.value_steps.proofs.FourShareTurns.{FourShare, Rooms, Sharing, number, rooms, first-asks, second-asks, share-none, share-more, share-all}
 use Rattle.value_steps.proofs.quads.share_four.Statement.{statement}
 use Rattle.value_steps.proofs.quads.share_four.Tie as tie
@@ -25,16 +25,16 @@ size-requires : tie.Need-size-requires Inv-loop μ-loop
 size-requires c κs = search needs
 
 mul-w : tie.Need-mul-w Inv-loop μ-loop
-mul-w c = let s = c .before in index-fits (s .good .1 .1 .0 .1) (omega (arith, s .pre .0 .room, s .pre .0 .under))
+mul-w c = let s = c .before in index-fits (s .good .1 .1 .0 .1) (omega (arith, s .pre .0 .room, s .pre .0 .direction .under))
 
 highest-bit-requires : tie.Need-highest-bit-requires Inv-loop μ-loop
-highest-bit-requires c κs = (four-some (c .before .pre .0), four-small (c .before .pre .0))
+highest-bit-requires c κs = (c .before .pre .0 .direction .some, direction-lt (c .before .pre .0 .direction))
 
 loop-holds : tie.Need-loop-holds Inv-loop μ-loop
 loop-holds c = share-none _ _ _ _
 
 insert-zero-requires : tie.Need-insert-zero-requires Inv-loop μ-loop
-insert-zero-requires c κs = (omega (arith, c .before .before .highest-bit .ensures .1), omega (arith, four-number-le (c .before .before .before .before .pre .0)))
+insert-zero-requires c κs = (omega (arith, c .before .before .highest-bit .ensures .1), omega (arith, number-le (c .before .before .before .before .pre .0 .direction)))
 
 abbrev start : tie.After-insert-zero Inv-loop μ-loop → tie.Start Inv-loop μ-loop
 start c = c .before .before .before .before .before

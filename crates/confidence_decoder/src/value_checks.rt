@@ -7,7 +7,7 @@ ghost use Rattle.words.specs.Sum.{allBelow};
 ghost use Rattle.refusals.specs.Refusals.{codeChecks};
 ghost use Rattle.rule.specs.Decoding.{limitChecks};
 ghost use Rattle.confidences.specs.Answers.{lowestOutside, valueChecks};
-ghost use Rattle.value_checks.specs.Checked.{CheckedValues, isInside, rangeChecks};
+ghost use Rattle.confidence_decoder.specs.Checked.{CheckedValues, isInside, rangeChecks};
 use refusals::Answer;
 use refusals::Refusal;
 

@@ -1,4 +1,4 @@
--- `value_checks::lowest_outside` meets its contract: every value is in the range where all pass the test, else every one that was passed. Assumes nothing.
+-- `confidence_decoder::value_checks::lowest_outside` meets its contract: every value is in the range where all pass the test, else every one that was passed. Assumes nothing.
 use Prim.Native.Nat.{ℕ, _-_, _≤_, _<_}
 use mathlib.Core.Path.{sym, _∙_}
 use native.Mathlib.Omega.{arith}
@@ -10,10 +10,10 @@ use borrow.Author.Tests.{leb-true}
 use Rattle.words.specs.SumLaws.{all-true}
 use Rattle.area.specs.Area.{at}
 use Rattle.confidences.specs.Confidences.{greatest}
-use Rattle.value_checks.specs.CheckedLaws.{outside-found}
-use Rattle.value_checks.specs.Numbers.{inside, over, under}
-use Rattle.value_checks.proofs.lowest_outside.Statement.{statement}
-use Rattle.value_checks.proofs.lowest_outside.Tie as tie
+use Rattle.confidence_decoder.specs.CheckedLaws.{outside-found}
+use Rattle.confidence_decoder.specs.Numbers.{inside, over, under}
+use Rattle.confidence_decoder.proofs.value_checks.lowest_outside.Statement.{statement}
+use Rattle.confidence_decoder.proofs.value_checks.lowest_outside.Tie as tie
 
 abbrev Inv-loop : tie.InvT-loop
 Inv-loop values p₀ p = (p ≤ length values) × ((q : ℕ) → q < p → natAbs (at values q) ≤ greatest)

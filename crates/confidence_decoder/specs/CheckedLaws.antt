@@ -21,7 +21,7 @@ use Rattle.refusals.specs.declared.Refusal.{Refusal}
 use Rattle.refusals.specs.declared.Refusal.the-variants.{OutOfRange}
 use Rattle.confidences.specs.Answers.{lowestOutside}
 use Rattle.confidences.specs.Confidences.{greatest}
-use Rattle.value_checks.specs.Checked.{CheckedValues, outsidePlace, rangeChecks}
+use Rattle.confidence_decoder.specs.Checked.{CheckedValues, outsidePlace, rangeChecks}
 
 -- ---- the lowest place
 

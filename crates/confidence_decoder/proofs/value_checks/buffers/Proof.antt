@@ -1,4 +1,4 @@
--- `value_checks::buffers` meets its contract. Assumes nothing.
+-- `confidence_decoder::value_checks::buffers` meets its contract. Assumes nothing.
 use Prim.Native.Nat.{_*_, _^_, _≤_}
 use mathlib.Core.Path.{refl}
 use mathlib.Core.List.{[]}
@@ -8,10 +8,10 @@ use lib.Pow.{pow-mono}
 use borrow.Author.Needs.{needs}
 use Rattle.refusals.specs.Refusals.{Checked}
 use Rattle.rule.specs.Decoding.{sizeChecks}
-use Rattle.value_checks.specs.Checked.{rangeChecks}
-use Rattle.value_checks.specs.CheckedLaws.{goes-on-values, stops-values}
-use Rattle.value_checks.proofs.buffers.Statement.{statement}
-use Rattle.value_checks.proofs.buffers.Tie as tie
+use Rattle.confidence_decoder.specs.Checked.{rangeChecks}
+use Rattle.confidence_decoder.specs.CheckedLaws.{goes-on-values, stops-values}
+use Rattle.confidence_decoder.proofs.value_checks.buffers.Statement.{statement}
+use Rattle.confidence_decoder.proofs.value_checks.buffers.Tie as tie
 
 size-requires : tie.Need-size-requires
 size-requires c κs = search needs

@@ -1,11 +1,11 @@
--- `value_checks::call` meets its contract. Assumes nothing.
+-- `confidence_decoder::value_checks::call` meets its contract. Assumes nothing.
 use mathlib.Core.Path.{refl}
 use borrow.Author.Needs.{needs}
 use Rattle.refusals.specs.CheckLaws.{code-done}
 use Rattle.confidences.specs.Answers.{valueChecks}
-use Rattle.value_checks.specs.CheckedLaws.{goes-on-values, stops-values}
-use Rattle.value_checks.proofs.call.Statement.{statement}
-use Rattle.value_checks.proofs.call.Tie as tie
+use Rattle.confidence_decoder.specs.CheckedLaws.{goes-on-values, stops-values}
+use Rattle.confidence_decoder.proofs.value_checks.call.Statement.{statement}
+use Rattle.confidence_decoder.proofs.value_checks.call.Tie as tie
 
 check-code-requires : tie.Need-check-code-requires
 check-code-requires c κs = search needs

@@ -1,4 +1,4 @@
--- `value_checks::all_inside` meets its contract: all is the test of the values passed. Assumes nothing.
+-- `confidence_decoder::value_checks::all_inside` meets its contract: all is the test of the values passed. Assumes nothing.
 use Prim.Native.Nat.{ℕ, _-_, _≤_}
 use mathlib.Core.Path.{_≡_, refl, ap, _∙_}
 use mathlib.Core.Bool.{Bool, _&&_}
@@ -8,10 +8,10 @@ use borrow.Author.Needs.{needs}
 use Rattle.words.specs.Sum.{allBelow}
 use Rattle.words.specs.SumLaws.{all-none, all-more}
 use Rattle.area.specs.Area.{at}
-use Rattle.value_checks.specs.Checked.{isInside}
-use Rattle.value_checks.specs.Numbers.{inside-test}
-use Rattle.value_checks.proofs.all_inside.Statement.{statement}
-use Rattle.value_checks.proofs.all_inside.Tie as tie
+use Rattle.confidence_decoder.specs.Checked.{isInside}
+use Rattle.confidence_decoder.specs.Numbers.{inside-test}
+use Rattle.confidence_decoder.proofs.value_checks.all_inside.Statement.{statement}
+use Rattle.confidence_decoder.proofs.value_checks.all_inside.Tie as tie
 
 abbrev Inv-loop : tie.InvT-loop
 Inv-loop values all₀ p₀ p-end all p = (p-end ≡ length values) × (p ≤ length values) × (all ≡ allBelow p (isInside values))

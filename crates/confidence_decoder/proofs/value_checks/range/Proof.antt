@@ -1,9 +1,9 @@
--- `value_checks::range` meets its contract. Assumes nothing.
+-- `confidence_decoder::value_checks::range` meets its contract. Assumes nothing.
 use native.Mathlib.Omega.{arith}
 use borrow.Author.Needs.{needs}
-use Rattle.value_checks.specs.CheckedLaws.{none-outside, outside-named}
-use Rattle.value_checks.proofs.range.Statement.{statement}
-use Rattle.value_checks.proofs.range.Tie as tie
+use Rattle.confidence_decoder.specs.CheckedLaws.{none-outside, outside-named}
+use Rattle.confidence_decoder.proofs.value_checks.range.Statement.{statement}
+use Rattle.confidence_decoder.proofs.value_checks.range.Tie as tie
 
 lowest-outside-requires : tie.Need-lowest-outside-requires
 lowest-outside-requires c κs = search needs
