@@ -11,6 +11,7 @@ ghost use Rattle.hadamard.specs.Correlation.{correlation};
 ghost use Rattle.hadamard.specs.Summable.{Summable};
 ghost use Rattle.hadamard.specs.Transform.{sums};
 ghost use Rattle.correlations.specs.Begun.{Begun, Blockwise};
+ghost use Rattle.correlations.specs.Halves.{Halved, HalvesDone};
 use hadamard::butterfly;
 use hadamard::level;
 use hadamard::two;
@@ -115,4 +116,15 @@ pub fn correlate(a: &mut [i32], m: usize)
     }
     fours(a);
     levels_by_two(a);
+}
+
+// The correlations of each half with its own values, in place: the transform of the whole without its last level.
+pub fn correlate_halves(a: &mut [i32], k: usize)
+    requires { ⌜ Halved k (now a) ⌝ }
+    ensures { λ _. ⌜ HalvesDone k (now (a .entry)) (now (a .exit)) ⌝ }
+{
+    let n = a.len();
+    let h = n / 2;
+    correlate(&mut a[0..h], k);
+    correlate(&mut a[h..n], k);
 }

@@ -1,27 +1,28 @@
 -- A call of `gap`: its contract from its checks, and the correlations of the word in the lent numbers. Assumes nothing.
-use Prim.Native.Nat.{ℕ, _+_, _*_, _^_, _≤_, _<_}
+use Prim.Native.Nat.{ℕ, suc, _+_, _-_, _*_, _/_, _^_, _≤_, _<_}
 use mathlib.Core.Path.{_≡_, refl, sym, ap, ap₂, _∙_}
 use mathlib.Core.Bool.{Bool, true, false, cond}
 use mathlib.Core.List.{List, _++_}
 use native.Mathlib.Decide.{decLt, ℕ-discrete}
-use native.Mathlib.Nat.{zero-mul}
+use native.Mathlib.Nat.{mul-le-mul}
 use native.Mathlib.Omega.{arith}
 use lib.Dec.{leb}
 use lib.IntN.{ℤ, pos, natAbs}
 use lib.ListN.{length, List·getD-eq-default}
 use lib.Pow.{pow-mono, pow-pos}
 use borrow.Author.Tests.{eq-eqb, eqb-true, leb-true, ne-eqb}
-use Rattle.area.specs.Area.{at, sizeAt}
+use Rattle.area.specs.Area.{at}
+use Rattle.correlations.specs.Halves.{Halved, HalvesDone}
 use Rattle.hadamard.specs.Correlation.{correlation, sign, values}
-use Rattle.hadamard.specs.CorrelationLaws.{correlation-ext, near-distance, sign-size}
-use Rattle.hadamard.specs.Summable.{Summable}
+use Rattle.hadamard.specs.CorrelationLaws.{correlation-ext, sign-size}
+use Rattle.peaks.specs.Joined.{joined-whole}
+use Rattle.peaks.specs.Packing.{correlation-size}
+use Rattle.peaks.specs.Peaks.{pairsJoined}
 use Rattle.refusals.specs.CheckLaws.{bits-tested, number-pos, passed}
 use Rattle.refusals.specs.Refusals.{Checked, answerNumber, answerPlace, codeChecks, firstRefusal, numberOf, placeNamed, placeOf}
 use Rattle.refusals.specs.declared.Answer.{Answer}
 use Rattle.refusals.specs.declared.Refusal.{Refusal}
 use Rattle.rule.specs.Decoding.{bufferChecks, zeros}
-use Rattle.words.specs.Sum.{tabulate}
-use Rattle.words.specs.SumLaws.{getD-tabulate, length-tabulate}
 use Rattle.words.specs.Word.{IsWord, bit}
 use Rattle.words.specs.Written.{Written}
 use Rattle.gap.specs.Calls.{Measures, gapCall, gapChecks, gapIn, gapValues, measuredValues}
@@ -119,32 +120,86 @@ module _ {m : ℕ} {word : List ℕ} {part xs : List ℤ} (h : Fits m word part)
   signs-long : length xs ≡ 2 ^ m
   signs-long = w .long ∙ h .room
 
-  pub signs-summable : Summable m xs
-  signs-summable = record {
-    size = signs-long;
-    small = λ i. elim (decLt i (2 ^ m)) [
-      | yes l ↦ rw (sign-at i l, sign-size (bit word i)) (omega (arith, pow-mono {j = 10} (h .most)))
-      | no k ↦ rw (List·getD-eq-default xs (pos 0) {n = i} (omega (arith, signs-long))) (omega (arith, zero-mul (2 ^ m)))
-    ];
+  sign-small : (p : ℕ) → p < 2 ^ m → natAbs (at xs p) ≤ 1
+  sign-small p l = omega (arith, ap natAbs (sign-at p l), sign-size (bit word p))
+
+  -- the exponent of a half
+  abbrev k : ℕ
+  k = m - 1
+
+  whole : suc k ≡ m
+  whole = omega (arith, h .some)
+
+  doubled : 2 ^ k + 2 ^ k ≡ 2 ^ m
+  doubled = omega (arith, ap (λ (r : ℕ). 2 ^ r) whole)
+
+  half-few : 2 ^ k ≤ 512
+  half-few = omega (arith, doubled, pow-mono {j = 10} (h .most))
+
+  pub signs-halved : Halved k xs
+  signs-halved = record {
+    size = signs-long ∙ sym doubled;
+    small = λ p l. omega (arith, mul-le-mul (sign-small p (omega (arith, doubled))) half-few);
   }
 
-  -- then ys, their correlations
-  module _ {ys : List ℤ} (e : ys ≡ tabulate (2 ^ m) (correlation m (at xs))) where
-    long : length ys ≡ 2 ^ m
-    long = ap length e ∙ length-tabulate (2 ^ m) _
+  -- then ys, the correlations of each half
+  module _ {ys : List ℤ} (d : HalvesDone k xs ys) where
+    abbrev n : ℕ
+    n = length ys / 2
 
-    size-at : (u : ℕ) → u < 2 ^ m → sizeAt ys u ≡ natAbs (correlation m (values word) u)
+    en : n ≡ 2 ^ k
+    en = omega (arith, d .long, signs-long, doubled)
+
+    abbrev high : ℕ → ℤ
+    high p = at xs (2 ^ k + p)
+
+    second-at : (u : ℕ) → u < n → at ys (n + u) ≡ correlation k high u
+    second-at u l = ap (λ (a : ℕ). at ys (a + u)) en ∙ d .second u (omega (arith, en))
+
+    long : length ys ≡ n + n
+    long = d .long ∙ signs-long ∙ omega (arith, en, doubled)
+
+    size-at : (u : ℕ) → u < n + n → natAbs (pairsJoined n ys u) ≡ natAbs (correlation m (values word) u)
     size-at u l =
-        ap natAbs (ap (λ (zs : List ℤ). at zs u) e ∙ getD-tabulate (2 ^ m) _ (pos 0) u l ∙ correlation-ext m (at xs) (values word) sign-at u)
+        ap natAbs
+        (joined-whole k n (at xs) (at ys) (λ i. at ys (n + i)) en (λ v b. d .first v (omega (arith, en))) second-at u l
+        ∙ ap (λ (r : ℕ). correlation r (at xs) u) whole ∙ correlation-ext m (at xs) (values word) sign-at u)
 
-    pub sizes-small : Small ys
-    sizes-small = record {
-      some = omega (arith, long, pow-pos m);
-      each = λ i. elim (decLt i (2 ^ m)) [
-        | yes l ↦ omega (arith, size-at i l, near-distance (h .input) i, pow-mono {j = 10} (h .most))
-        | no k ↦ omega (arith, ap natAbs (List·getD-eq-default ys (pos 0) {n = i} (omega (arith, long))))
-      ];
+    each : (i : ℕ) → natAbs (at ys i) ≤ 512
+    each i = elim (decLt i n) [
+      | yes l ↦
+          omega (
+            arith,
+            ap natAbs (d .first i (omega (arith, en))),
+            correlation-size k (at xs) i (λ p b. sign-small p (omega (arith, doubled))),
+            half-few,
+          )
+      | no a ↦ elim (decLt i (n + n)) [
+        | yes l ↦
+            let back : n + (i - n) ≡ i = omega arith in
+            omega (
+              arith,
+              ap (λ (b : ℕ). natAbs (at ys b)) back,
+              ap natAbs (second-at (i - n) (omega arith)),
+              correlation-size k high (i - n) (λ p b. sign-small (2 ^ k + p) (omega (arith, doubled))),
+              half-few,
+            )
+        | no b ↦ omega (arith, ap natAbs (List·getD-eq-default ys (pos 0) {n = i} (omega (arith, long))))
+      ]
+    ]
+
+    pub halves-small : Small n ys
+    halves-small = record {
+      pairs = record {
+        some = omega (arith, en, pow-pos k);
+        few = omega (arith, en, half-few);
+        size = long;
+        small = λ i l. omega (arith, each i);
+      };
+      each = each;
     }
 
-    pub gap-is : gapBelow (length ys) (sizeAt ys) ≡ gapOf m word
-    gap-is = ap (λ (n : ℕ). gapBelow n (sizeAt ys)) long ∙ gap-ext (2 ^ m) (sizeAt ys) (λ u. natAbs (correlation m (values word) u)) (pow-pos m) size-at
+    pub gap-is : gapBelow (n + n) (λ u. natAbs (pairsJoined n ys u)) ≡ gapOf m word
+    gap-is =
+        gap-ext (n + n) (λ u. natAbs (pairsJoined n ys u)) (λ u. natAbs (correlation m (values word) u)) (omega (arith, en, pow-pos k)) size-at
+        ∙ ap (λ (r : ℕ). gapBelow r (λ u. natAbs (correlation m (values word) u))) (omega (arith, en, doubled))

@@ -87,7 +87,7 @@ pub tie-gap : (m : ℕ) (w : List ℕ) → order1 m (values w) ≡ refused 9 0 1
 tie-gap m w e =
     ⊎-elim
     (λ a. let z : _≡_ {A = ℕ} 0 1 = ap taken (sym e ∙ order1-alone m (values w) a) in absurd (omega arith))
-    (λ h. gap-tie (record { below = h .first-below; most = h .most }) (h .second) (h .second-below) (λ q. h .apart (sym q)) (sym (h .equal)))
+    (λ h. gap-tie h)
     (peak (2 ^ m) (sizes m (values w)) (pow-pos m))
   where
     taken : Outcome → ℕ

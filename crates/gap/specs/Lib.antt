@@ -3,5 +3,6 @@ pub mod Gap
 pub mod Calls
 pub mod Measuring
 pub mod Seconds
+pub mod SizeLaws
 pub mod GapLaws
 pub mod CallLaws

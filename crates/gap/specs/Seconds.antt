@@ -1,11 +1,10 @@
--- The gap of finitely many numbers: the second of them, as a loop keeps it, and what the gap says of the places. Assumes nothing.
-use Prim.Native.Nat.{ℕ, zero, suc, _+_, _-_, _≤_, _<_, max, min}
+-- The gap of finitely many numbers: by any place of the greatest, and what it says of the places. Assumes nothing.
+use Prim.Native.Nat.{ℕ, zero, suc, _+_, _-_, _≤_, _<_, max}
 use mathlib.Core.Path.{_≡_, refl, sym, ap, ap₂, _∙_}
 use mathlib.Core.Bool.{Bool, cond}
 use mathlib.Core.Logic.{_≢_, ⊎-elim}
 use native.Mathlib.Decide.{ℕ-discrete}
-use native.Mathlib.Nat.{not-suc-le-zero, le-of-suc-le-suc, eq-or-lt-of-le}
-use native.Mathlib.Numerals.{add-one}
+use native.Mathlib.Nat.{not-suc-le-zero}
 use native.Mathlib.Omega.{arith}
 use lib.Dec.{eqb}
 use borrow.Author.Tests.{eq-eqb, ne-eqb, eqb-true, eqb-false}
@@ -13,39 +12,20 @@ use Rattle.words.specs.Search.{First, where-first}
 use Rattle.words.specs.Sum.{greatestBelow, total}
 use Rattle.words.specs.SumLaws.{le-or-lt, total-ext}
 use Rattle.hadamard.specs.Correlation.{firstBelow}
-use Rattle.hadamard.specs.Peak.{Alone, greatest-at, greatest-bound, greatest-met}
+use Rattle.hadamard.specs.Peak.{Alone, Shared, alone-most, greatest-at, greatest-bound, greatest-met}
 use Rattle.gap.specs.Gap.{gapBelow, others}
 
--- the second greatest of f 0, .., f (n - 1), which may be as great as the greatest
-unfoldable pub secondBelow : ℕ → (ℕ → ℕ) → ℕ
-secondBelow zero f = 0
-secondBelow (suc n) f = max (secondBelow n f) (min (greatestBelow n f) (f n))
-
-pub second-none : (f : ℕ → ℕ) → secondBelow 0 f ≡ 0
-unfolding secondBelow
-second-none f = refl
-
-pub second-more : (n : ℕ) (f : ℕ → ℕ) → secondBelow (n + 1) f ≡ max (secondBelow n f) (min (greatestBelow n f) (f n))
-unfolding secondBelow
-second-more n f = rw add-one
-
-pub second-most : (n : ℕ) (f : ℕ → ℕ) → secondBelow n f ≤ greatestBelow n f
-unfolding secondBelow total
-second-most zero f = omega arith
-second-most (suc n) f = omega (arith, second-most n f)
-
 module _ (f : ℕ → ℕ) (u : ℕ) where
-  others-at : others f u u ≡ 0
+  pub others-at : others f u u ≡ 0
   others-at = rw (eq-eqb u u refl)
 
   pub others-else : {v : ℕ} → v ≢ u → others f u v ≡ f v
   others-else {v} k = rw (ne-eqb v u k)
 
-  -- where u is not among them
-  others-all : (n : ℕ) → n ≤ u → greatestBelow n (others f u) ≡ greatestBelow n f
-  others-all n h = total-ext max 0 n (others f u) f (λ p l. others-else (λ e. omega arith))
+  pub others-most : (v : ℕ) → others f u v ≤ f v
+  others-most v = elim (ℕ-discrete v u) [ yes e ↦ omega (arith, ap (others f u) e, others-at) | no k ↦ omega (arith, others-else k) ]
 
-bounded : (n : ℕ) (f : ℕ → ℕ) (x : ℕ) → ((v : ℕ) → v < n → f v ≤ x) → greatestBelow n f ≤ x
+pub bounded : (n : ℕ) (f : ℕ → ℕ) (x : ℕ) → ((v : ℕ) → v < n → f v ≤ x) → greatestBelow n f ≤ x
 unfolding total
 bounded zero f x h = omega arith
 bounded (suc n) f x h = omega (arith, bounded n f x (λ v l. h v (omega arith)), h n (omega arith))
@@ -54,24 +34,6 @@ bounded (suc n) f x h = omega (arith, bounded n f x (λ v l. h v (omega arith)),
 pub record Most (n : ℕ) (f : ℕ → ℕ) (u : ℕ) : Type 0 where
   pub below : u < n
   pub most : (v : ℕ) → v < n → f v ≤ f u
-
--- whichever place of the greatest is left out
-pub others-second : (n : ℕ) (f : ℕ → ℕ) (u : ℕ) → Most n f u → greatestBelow n (others f u) ≡ secondBelow n f
-unfolding secondBelow total
-others-second zero f u h = absurd (not-suc-le-zero (h .below))
-others-second (suc n) f u h =
-    ⊎-elim
-    (λ e.
-    let own : others f u n ≡ 0 = ap (others f u) (sym e) ∙ others-at f u in
-    let all : greatestBelow n (others f u) ≡ greatestBelow n f = others-all f u n (omega arith) in
-    let top : greatestBelow n f ≤ f n = bounded n f (f n) (λ v l. omega (arith, h .most v (omega arith), ap f e)) in
-    omega (arith, second-most n f))
-    (λ l.
-    let less : Most n f u = record { below = l; most = λ v k. h .most v (omega arith) } in
-    let here : others f u n ≡ f n = others-else f u (λ e. omega arith) in
-    let top : greatestBelow n f ≡ f u = greatest-at f n u l (less .most) in
-    omega (arith, others-second n f u less, h .most n (omega arith)))
-    (eq-or-lt-of-le (le-of-suc-le-suc (h .below)))
 
 -- the first place of the greatest
 pub first-most : (n : ℕ) (f : ℕ → ℕ) → 0 < n → Most n f (firstBelow n f (greatestBelow n f))
@@ -90,16 +52,38 @@ first-most (suc n) f h = record { below = u-lt; most = λ v l. omega (arith, gre
     u-lt : u < suc n
     u-lt = let (i, l, e) = greatest-met f n in ⊎-elim (λ (q : u ≤ i). omega arith) (λ q. absurd (eqb-false (f i) g (s .before i q) e)) (le-or-lt u i)
 
+-- a place that has more than every other
+alone-has : {n : ℕ} {f : ℕ → ℕ} {u : ℕ} → Alone n f u → Most n f u
+alone-has h = record { below = h .below; most = alone-most h }
+
 -- ---- the gap
 
-pub gap-second : (n : ℕ) (f : ℕ → ℕ) → 0 < n → gapBelow n f ≡ greatestBelow n f - secondBelow n f
-unfolding gapBelow
-gap-second n f h = ap (λ (x : ℕ). greatestBelow n f - x) (others-second n f _ (first-most n f h))
-
--- by any place of the greatest
+-- by any place of the greatest: where it is not the first, both differences are 0
 pub gap-at : {n : ℕ} {f : ℕ → ℕ} {u : ℕ} → Most n f u → gapBelow n f ≡ f u - greatestBelow n (others f u)
-gap-at {n} {f} {u} h =
-    gap-second n f (omega (arith, h .below)) ∙ ap₂ (λ (x y : ℕ). x - y) (greatest-at f n u (h .below) (h .most)) (sym (others-second n f u h))
+unfolding gapBelow
+gap-at {n} {f} {u} h = elim (ℕ-discrete u v) [
+  | yes e ↦ ap₂ (λ (x t : ℕ). x - greatestBelow n (others f t)) top (sym e)
+  | no k ↦
+      omega (
+        arith,
+        top,
+        h .most v (s .below),
+        s .most u (h .below),
+        greatest-bound (others f v) n u (h .below),
+        others-else f v k,
+        greatest-bound (others f u) n v (s .below),
+        others-else f u (λ e. k (sym e)),
+      )
+]
+  where
+    v : ℕ
+    v = firstBelow n f (greatestBelow n f)
+
+    s : Most n f v
+    s = first-most n f (omega (arith, h .below))
+
+    top : greatestBelow n f ≡ f u
+    top = greatest-at f n u (h .below) (h .most)
 
 -- every other place has less, by the gap at least
 pub gap-least : {n : ℕ} {f : ℕ → ℕ} {u : ℕ} → Most n f u → (v : ℕ) → v < n → v ≢ u → 0 < gapBelow n f → f v + gapBelow n f ≤ f u
@@ -122,18 +106,17 @@ gap-whole {n} {f} {u} l zero-else =
     )
 
 -- "A tie has gap 0."
-pub gap-tie : {n : ℕ} {f : ℕ → ℕ} {u : ℕ} → Most n f u → (v : ℕ) → v < n → v ≢ u → f v ≡ f u → gapBelow n f ≡ 0
-gap-tie {n} {f} {u} h v l k e =
-    omega (arith, gap-at h, greatest-bound (others f u) n v l, others-else f u k)
+pub gap-tie : {n : ℕ} {f : ℕ → ℕ} → Shared n f → gapBelow n f ≡ 0
+gap-tie {n} {f} h =
+    let m : Most n f (h .first) = record { below = h .first-below; most = h .most } in
+    omega (arith, gap-at m, greatest-bound (others f (h .first)) n (h .second) (h .second-below), others-else f (h .first) (λ e. h .apart (sym e)), h .equal)
 
 -- a place that has more than every other leaves a gap
 pub gap-some : {n : ℕ} {f : ℕ → ℕ} {u : ℕ} → Alone n f u → 0 < f u → 0 < gapBelow n f
 gap-some {n} {f} {u} h pos =
-    let m : Most n f u =
-    record { below = h .below; most = λ v l. elim (ℕ-discrete v u) [ yes e ↦ omega (arith, ap f e) | no k ↦ omega (arith, h .others v l k) ] } in
     omega (
       arith,
-      gap-at m,
+      gap-at (alone-has h),
       bounded n (others f u) (f u - 1)
           (λ v l. elim (ℕ-discrete v u) [
             | yes e ↦ omega (arith, ap (others f u) e, others-at f u)
@@ -142,14 +125,19 @@ gap-some {n} {f} {u} h pos =
     )
 
 pub gap-ext : (n : ℕ) (f g : ℕ → ℕ) → 0 < n → ((u : ℕ) → u < n → f u ≡ g u) → gapBelow n f ≡ gapBelow n g
-unfolding secondBelow
-gap-ext n f g h e =
-    gap-second n f h ∙ ap₂ (λ (x y : ℕ). x - y) (total-ext max 0 n f g e) (second-ext n e) ∙ sym (gap-second n g h)
+gap-ext n f g h e = gap-at s ∙ ap₂ (λ (x y : ℕ). x - y) (e u (s .below)) (total-ext max 0 n _ _ left) ∙ sym (gap-at t)
   where
-    second-ext : (n : ℕ) → ((u : ℕ) → u < n → f u ≡ g u) → secondBelow n f ≡ secondBelow n g
-    second-ext zero e = refl
-    second-ext (suc n) e =
-        rw (second-ext n (λ u l. e u (omega arith)), total-ext max 0 n f g (λ u l. e u (omega arith)), e n (omega arith))
+    u : ℕ
+    u = firstBelow n f (greatestBelow n f)
+
+    s : Most n f u
+    s = first-most n f h
+
+    t : Most n g u
+    t = record { below = s .below; most = λ v l. omega (arith, e v l, e u (s .below), s .most v l) }
+
+    left : (v : ℕ) → v < n → others f u v ≡ others g u v
+    left v l = ap (cond (eqb v u) 0) (e v l)
 
 -- ---- places moved by an involution σ
 

@@ -1,20 +1,21 @@
 // How far a block of order 1 is from another answer: the gap between the greatest and the second absolute correlation.
 ghost use mathlib.Core.Bool.{true};
 ghost use mathlib.Core.Path.{_≡_};
-ghost use Prim.Native.Nat.{_^_, _<_, _≤_, max, min};
+ghost use Prim.Native.Nat.{_≤_};
 ghost use lib.ListN.{length};
-ghost use lib.IntN.{pos, natAbs};
+ghost use lib.IntN.{pos};
 ghost use Rattle.words.specs.Word.{IsWord, bit};
 ghost use Rattle.words.specs.Written.{Written};
-ghost use Rattle.area.specs.Area.{sizeAt};
 ghost use Rattle.refusals.specs.Refusals.{Checked};
 ghost use Rattle.code.specs.Code.{IsCodeword};
 ghost use Rattle.hadamard.specs.Correlation.{sign};
-ghost use Rattle.gap.specs.Gap.{gapBelow, gapOf};
+ghost use Rattle.gap.specs.Gap.{gapOf};
 ghost use Rattle.gap.specs.Calls.{Measures, gapChecks};
-ghost use Rattle.gap.specs.Measuring.{Fits, Small};
+ghost use Rattle.gap.specs.Measuring.{Fits};
 use refusals::Answer;
 use refusals::Refusal;
+
+mod pairs;
 
 // What `gap` answers.
 pub enum Measured {
@@ -46,47 +47,6 @@ fn signs(word: &[u8], part: &mut [i32])
     }
 }
 
-// The absolute value, as a size.
-fn magnitude(x: i32) -> usize
-    requires { ⌜ natAbs x < 2 ^ 31 ⌝ }
-    ensures { λ r. ⌜ r ≡ natAbs x ⌝ }
-{
-    if x < 0 { (0 - x) as usize } else { x as usize }
-}
-
-// The second greatest of some numbers and x, from their greatest and second: one as great as the greatest is the second.
-fn second_after(most: usize, second: usize, x: usize) -> usize
-    requires { ⌜ second ≤ most ⌝ }
-    ensures { λ r. ⌜ r ≡ max second (min most x) ⌝ }
-{
-    if x == most {
-        return x;
-    }
-    if most < x {
-        return most;
-    }
-    if second < x { x } else { second }
-}
-
-// The greatest absolute value less the second.
-fn widest(a: &[i32]) -> usize
-    requires { ⌜ Small (now a) ⌝ }
-    ensures { λ g. ⌜ g ≡ gapBelow (length (now (a .entry))) (sizeAt (now (a .entry))) ⌝ }
-{
-    let mut most = 0;
-    let mut second = 0;
-    let mut i = 0;
-    while i < a.len() {
-        let x = magnitude(a[i]);
-        second = second_after(most, second, x);
-        if most < x {
-            most = x;
-        }
-        i += 1;
-    }
-    most - second
-}
-
 // Whether the word is a codeword; one of fewer than eight places is not looked at.
 fn known_codeword(m: usize, word: &[u8]) -> bool
     requires { ⌜ (m ≤ 10) × IsWord m (now word) ⌝ }
@@ -107,8 +67,8 @@ fn measure(m: usize, word: &[u8], part: &mut [i32]) -> usize
         return part.len();
     }
     signs(word, part);
-    correlations::correlate(part, m);
-    widest(part)
+    correlations::correlate_halves(part, m - 1);
+    pairs::widest(part.len() / 2, part)
 }
 
 // The gap of a block at order 1.

@@ -100,7 +100,7 @@ module _ (f : ℕ → ℕ) (x : ℕ) where
 -- ---- one place alone, or two that share it
 
 module _ {n : ℕ} {f : ℕ → ℕ} where
-  alone-most : {u : ℕ} → Alone n f u → (v : ℕ) → v < n → f v ≤ f u
+  pub alone-most : {u : ℕ} → Alone n f u → (v : ℕ) → v < n → f v ≤ f u
   alone-most {u} h v l = elim (ℕ-discrete v u) [
     | yes e ↦ omega (arith, ap f e)
     | no k ↦ omega (arith, h .others v l k)

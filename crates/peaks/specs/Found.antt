@@ -1,9 +1,9 @@
 -- What the search finds is the peak. Assumes nothing.
 use Prim.Native.Nat.{ℕ, _+_, _%_, _≤_, _<_, max}
-use mathlib.Core.Path.{_≡_, sym, ap, ap₂, _∙_, subst}
+use mathlib.Core.Path.{_≡_, sym, ap, ap₂, _∙_}
 use mathlib.Core.Bool.{true, false, false≢true}
 use mathlib.Core.List.{List}
-use mathlib.Core.Logic.{_⊎_, inl, inr, ⊎-elim}
+use mathlib.Core.Logic.{_⊎_, inl, inr}
 use native.Mathlib.Decide.{ℕ-discrete}
 use native.Mathlib.Omega.{arith}
 use lib.IntN.{ℤ, pos, natAbs}
@@ -13,10 +13,10 @@ use Rattle.words.specs.Sum.{greatestBelow}
 use Rattle.words.specs.SumLaws.{total-ext}
 use Rattle.area.specs.Area.{at, sizeAt}
 use Rattle.hadamard.specs.Correlation.{constantOf}
-use Rattle.hadamard.specs.Peak.{Alone, Shared, alone-count, alone-first, alone-greatest, greatest-bound, one-alone, peak, shared-count}
+use Rattle.hadamard.specs.Peak.{Alone, Shared, alone-count, alone-first, alone-greatest, greatest-bound, one-alone, shared-count}
 use Rattle.peaks.specs.declared.Peak.{Peak}
 use Rattle.peaks.specs.Peaks.{joined, keysBelow, IsPeak, PeakAt, Sizes}
-use Rattle.peaks.specs.Keys.{keys-alone, keys-ext, keys-shared}
+use Rattle.peaks.specs.Keys.{keys-ext, keys-many, keys-one}
 use Rattle.peaks.specs.Pairs.{Layout, greater-sign, pair-alone, pair-even, joined-layout, pairs-share, sizes}
 
 -- ---- the peak of some values
@@ -53,17 +53,12 @@ pub record Searched (h : ℕ) (x y : ℕ → ℤ) (key : ℕ) : Type 0 where
 
 module _ {h : ℕ} {x y : ℕ → ℤ} {key : ℕ} (t : Searched h x y key) where
   pub searched-many : {p : Peak} → 131071 < key → p .alone ≡ false → IsPeak (h + h) (joined h x y) p
-  searched-many l ea = no-peak (h + h) (joined h x y) (pairs-share (joined-layout h x y) (⊎-elim
-      (λ a. absurd (omega (arith, t .keys, t .few, keys-alone a, a .below)))
-      (λ s. s)
-      (peak h (sizes x y) (t .some)))) ea
+  searched-many l ea =
+      no-peak (h + h) (joined h x y) (pairs-share (joined-layout h x y) (keys-many (t .some) (t .few) (t .keys) l)) ea
 
   module _ (l : key ≤ 131071) where
     pub searched-one : Alone h (sizes x y) (key % 65536)
-    searched-one = ⊎-elim
-        (λ a. subst (Alone h (sizes x y)) (omega (arith, t .keys, t .few, keys-alone a, a .below)) a)
-        (λ s. absurd (omega (arith, t .keys, keys-shared s)))
-        (peak h (sizes x y) (t .some))
+    searched-one = keys-one (t .some) (t .few) (t .keys) l
 
     pub searched-place : key % 65536 < h
     searched-place = searched-one .below
@@ -92,36 +87,49 @@ module _ {h : ℕ} {x y : ℕ → ℤ} {key : ℕ} (t : Searched h x y key) wher
 
 -- ---- the sizes in a list
 
+-- zs holds f 0, .., f (n - 1)
+pub record Holds (n : ℕ) (f : ℕ → ℕ) (zs : List ℤ) : Type 0 where
+  pub long : length zs ≡ n
+  pub each : (i : ℕ) → i < n → at zs i ≡ pos (f i)
+
+module _ {n : ℕ} {f : ℕ → ℕ} {zs : List ℤ} (s : Holds n f zs) where
+  pub holds-sizes : n ≤ 512 → ((i : ℕ) → i < n → f i ≤ 1024) → Sizes zs
+  holds-sizes few small = record {
+    few = omega (arith, s .long);
+    whole = λ i l. each i l ∙ ap (λ (z : ℤ). pos (natAbs z)) (sym (each i l));
+    small = λ i l. omega (arith, ap natAbs (each i l), small i (below l));
+  }
+    where
+      below : {i : ℕ} → i < length zs → i < n
+      below l = omega (arith, s .long)
+
+      each : (i : ℕ) → i < length zs → at zs i ≡ pos (f i)
+      each i l = s .each i (below l)
+
+  pub holds-same : (i : ℕ) → i < n → sizeAt zs i ≡ f i
+  holds-same i l = ap natAbs (s .each i l)
+
+  holds-greatest : greatestBelow (length zs) (sizeAt zs) ≡ greatestBelow n f
+  holds-greatest = ap (λ (k : ℕ). greatestBelow k (sizeAt zs)) (s .long) ∙ total-ext max 0 n _ _ holds-same
+
+  holds-keys :
+      {g : ℤ} {key : ℕ} → g ≡ pos (greatestBelow (length zs) (sizeAt zs))
+      → key ≡ keysBelow (length zs) (sizeAt zs) (natAbs g) → key ≡ keysBelow n f (greatestBelow n f)
+  holds-keys eg ek = ek ∙ ap₂ (λ (k b : ℕ). keysBelow k (sizeAt zs) b) (s .long) (ap natAbs eg ∙ holds-greatest) ∙ keys-ext n _ _ _ holds-same
+
 -- zs holds the sizes of the h pairs x i, y i
 pub record Held (h : ℕ) (x y : ℕ → ℤ) (zs : List ℤ) : Type 0 where
   pub long : length zs ≡ h
   pub each : (i : ℕ) → i < h → at zs i ≡ pos (sizes x y i)
 
 module _ {h : ℕ} {x y : ℕ → ℤ} {zs : List ℤ} (few : h ≤ 512) (s : Held h x y zs) where
-  pub held-sizes : ((i : ℕ) → i < h → sizes x y i ≤ 1024) → Sizes zs
-  held-sizes small = record {
-    few = omega (arith, s .long);
-    whole = λ i l. each i l ∙ ap (λ (z : ℤ). pos (natAbs z)) (sym (each i l));
-    small = λ i l. omega (arith, ap natAbs (each i l), small i (below l));
-  }
-    where
-      below : {i : ℕ} → i < length zs → i < h
-      below l = omega (arith, s .long)
+  holds : Holds h (sizes x y) zs
+  holds = record { long = s .long; each = s .each }
 
-      each : (i : ℕ) → i < length zs → at zs i ≡ pos (sizes x y i)
-      each i l = s .each i (below l)
+  pub held-sizes : ((i : ℕ) → i < h → sizes x y i ≤ 1024) → Sizes zs
+  held-sizes small = holds-sizes holds few small
 
   pub held-searched :
       {g : ℤ} {key : ℕ} → 0 < h → g ≡ pos (greatestBelow (length zs) (sizeAt zs))
       → key ≡ keysBelow (length zs) (sizeAt zs) (natAbs g) → Searched h x y key
-  held-searched some eg ek = record {
-    some = some;
-    few = few;
-    keys = ek ∙ ap₂ (λ (n b : ℕ). keysBelow n (sizeAt zs) b) (s .long) (ap natAbs eg ∙ best) ∙ keys-ext h _ _ _ same;
-  }
-    where
-      same : (i : ℕ) → i < h → sizeAt zs i ≡ sizes x y i
-      same i l = ap natAbs (s .each i l)
-
-      best : greatestBelow (length zs) (sizeAt zs) ≡ greatestBelow h (sizes x y)
-      best = ap (λ (n : ℕ). greatestBelow n (sizeAt zs)) (s .long) ∙ total-ext max 0 h _ _ same
+  held-searched some eg ek = record { some = some; few = few; keys = holds-keys holds eg ek }

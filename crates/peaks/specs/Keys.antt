@@ -1,8 +1,8 @@
 -- How often and where the greatest size occurs, in one sum. Assumes nothing.
-use Prim.Native.Nat.{ℕ, zero, suc, _+_, _*_, _≤_, _<_}
-use mathlib.Core.Path.{_≡_, refl, sym, ap, _∙_}
+use Prim.Native.Nat.{ℕ, zero, suc, _+_, _*_, _%_, _≤_, _<_}
+use mathlib.Core.Path.{_≡_, refl, sym, ap, _∙_, subst}
 use mathlib.Core.Bool.{cond}
-use mathlib.Core.Logic.{_≢_, _⊎_, inl, inr}
+use mathlib.Core.Logic.{_≢_, _⊎_, inl, inr, ⊎-elim}
 use native.Mathlib.Decide.{ℕ-discrete}
 use native.Mathlib.Nat.{not-suc-le-zero, le-refl}
 use native.Mathlib.Numerals.{add-one}
@@ -11,7 +11,7 @@ use lib.Dec.{eqb}
 use borrow.Author.Tests.{eq-eqb, ne-eqb}
 use Rattle.words.specs.Sum.{greatestBelow, total}
 use Rattle.words.specs.SumLaws.{le-or-lt, sum-ext, sum-most, sum-prefix, sum-zero}
-use Rattle.hadamard.specs.Peak.{Alone, Shared, alone-greatest, shared-greatest}
+use Rattle.hadamard.specs.Peak.{Alone, Shared, alone-greatest, peak, shared-greatest}
 use Rattle.peaks.specs.Peaks.{keysBelow}
 
 -- what a place adds
@@ -70,7 +70,7 @@ module _ {n : ℕ} {f : ℕ → ℕ} where
   pub keys-alone : {u : ℕ} → Alone n f u → keysBelow n f (greatestBelow n f) ≡ 65536 + u
   keys-alone {u} a = rw (alone-greatest a) (one-key f (f u) n u (a .below) refl (λ v l k e. omega (arith, a .others v l k)))
 
-  pub keys-shared : Shared n f → 131072 ≤ keysBelow n f (greatestBelow n f)
+  keys-shared : Shared n f → 131072 ≤ keysBelow n f (greatestBelow n f)
   keys-shared s = rw (shared-greatest s) (go (le-or-lt u v))
     where
       u : ℕ
@@ -82,6 +82,18 @@ module _ {n : ℕ} {f : ℕ → ℕ} where
       go : (u ≤ v) ⊎ (v < u) → 131072 ≤ keysBelow n f (f u)
       go (inl l) = two-keys f (f u) n u v (omega (arith, s .apart)) (s .second-below) refl (sym (s .equal))
       go (inr l) = two-keys f (f u) n v u l (s .first-below) (sym (s .equal)) refl
+
+-- the keys of the greatest tell which, and its place
+module _ {n : ℕ} {f : ℕ → ℕ} {key : ℕ} (some : 0 < n) (few : n ≤ 512) (e : key ≡ keysBelow n f (greatestBelow n f)) where
+  pub keys-many : 131071 < key → Shared n f
+  keys-many l = ⊎-elim (λ a. absurd (omega (arith, keys-alone a, a .below))) (λ s. s) (peak n f some)
+
+  pub keys-one : key ≤ 131071 → Alone n f (key % 65536)
+  keys-one l =
+      ⊎-elim
+      (λ a. subst (Alone n f) (omega (arith, keys-alone a, a .below)) a)
+      (λ s. absurd (omega (arith, keys-shared s)))
+      (peak n f some)
 
 -- functions that agree below n have the same keys
 pub keys-ext : (n : ℕ) (f g : ℕ → ℕ) (x : ℕ) → ((i : ℕ) → i < n → f i ≡ g i) → keysBelow n f x ≡ keysBelow n g x

@@ -9,3 +9,5 @@ pub mod Stored
 pub mod SamePeak
 pub mod Casts
 pub mod Joined
+pub mod PairLaws
+pub mod Searches

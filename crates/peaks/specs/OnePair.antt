@@ -6,10 +6,10 @@ use mathlib.Core.Logic.{_≢_, _⊎_, inl, inr}
 use native.Mathlib.Omega.{arith}
 use lib.Dec.{ltb}
 use lib.IntN.{ℤ, pos, negsuc, negℤ, natAbs, subℕ, _+ℤ_, _-ℤ_, +ℤ-idl, +ℤ-idr}
-use borrow.Author.Tests.{ltb-true}
+use borrow.Author.Tests.{ltb-true, ltb-false}
 use Rattle.area.specs.Numbers.{natAbs-add, natAbs-neg}
 use Rattle.hadamard.specs.Correlation.{constantOf}
-use Rattle.peaks.specs.Peaks.{alike, pairSize}
+use Rattle.peaks.specs.Peaks.{alike, lesserSize, pairSize}
 
 -- the one of greater size, and the other
 abbrev pub greaterOf : ℤ → ℤ → ℤ
@@ -54,6 +54,26 @@ lesser-most x y = go (alike x y)
     go : (t : Bool) → natAbs (cond t (x -ℤ y) (x +ℤ y)) ≤ pairSize x y
     go true = omega (arith, natAbs-add x (negℤ y), natAbs-neg y)
     go false = natAbs-add x y
+
+-- its size
+turned : (a b : ℕ) → natAbs (subℕ a b) ≡ natAbs (subℕ b a)
+turned a b = go (ltb a b) (ltb b a) refl refl
+  where
+    size : Bool → ℕ → ℕ → ℕ
+    size t c d = natAbs (cond t (negsuc (d - suc c)) (pos (c - d)))
+
+    go : (s t : Bool) → ltb a b ≡ s → ltb b a ≡ t → size s a b ≡ size t b a
+    go true true e f = absurd (omega (arith, ltb-true a b e, ltb-true b a f))
+    go true false e f = omega (arith, ltb-true a b e)
+    go false true e f = omega (arith, ltb-true b a f)
+    go false false e f = omega (arith, ltb-false a b e, ltb-false b a f)
+
+pub lesser-size : (x y : ℤ) → natAbs (lesserOf x y) ≡ lesserSize x y
+lesser-size (pos a) (pos b) = refl
+lesser-size (pos a) (negsuc b) = refl
+lesser-size (negsuc a) (pos zero) = omega (arith, ap natAbs (+ℤ-idr (negsuc a)), ap natAbs (+ℤ-idr (pos (suc a))))
+lesser-size (negsuc a) (pos (suc b)) = turned (suc b) (suc a)
+lesser-size (negsuc a) (negsuc b) = turned (suc b) (suc a)
 
 -- they are equal where one number is 0
 zero-of : (x : ℤ) → natAbs x ≡ 0 → x ≡ pos 0

@@ -10,12 +10,15 @@ use lib.IntN.{ℤ, natAbs, _+ℤ_, _-ℤ_}
 use borrow.Author.Tests.{lt-ltb, le-ltb}
 use Rattle.hadamard.specs.Correlation.{constantOf}
 use Rattle.hadamard.specs.Peak.{Alone, Shared}
-use Rattle.peaks.specs.Peaks.{alike, joined, pairSize}
-use Rattle.peaks.specs.OnePair.{greaterOf, greater-constant, greater-size, lesserOf, lesser-equal, lesser-less, lesser-most}
+use Rattle.peaks.specs.Peaks.{alike, joined, lesserSize, pairSize}
+use Rattle.peaks.specs.OnePair.{greaterOf, greater-constant, greater-size, lesserOf, lesser-equal, lesser-less, lesser-most, lesser-size}
 
 -- the sizes of the pairs x j, y j
 abbrev pub sizes : (ℕ → ℤ) → (ℕ → ℤ) → ℕ → ℕ
 sizes x y j = pairSize (x j) (y j)
+
+abbrev pub lessers : (ℕ → ℤ) → (ℕ → ℤ) → ℕ → ℕ
+lessers x y j = lesserSize (x j) (y j)
 
 -- the n values c are the sums and the differences of the h pairs x j, y j: where those of a pair stand, and the pair of a place
 pub record Layout (h n : ℕ) (x y c : ℕ → ℤ) : Type 0 where
@@ -39,16 +42,16 @@ module _ {h n : ℕ} {x y c : ℕ → ℤ} (k : Layout h n x y c) where
   abbrev pub greaterPlace : ℕ → ℕ
   greaterPlace j = cond (alike (x j) (y j)) (k .sum j) (k .difference j)
 
-  abbrev lesserPlace : ℕ → ℕ
+  abbrev pub lesserPlace : ℕ → ℕ
   lesserPlace j = cond (alike (x j) (y j)) (k .difference j) (k .sum j)
 
   -- what holds of both places of a pair
-  both : (P : ℕ → Type 0) (j : ℕ) → P (k .sum j) → P (k .difference j) → P (greaterPlace j)
+  both : (P : ℕ → Type 0) (j : ℕ) → P (k .sum j) → P (k .difference j) → P (greaterPlace j) × P (lesserPlace j)
   both P j s d = go (alike (x j) (y j))
     where
-      go : (t : Bool) → P (cond t (k .sum j) (k .difference j))
-      go true = s
-      go false = d
+      go : (t : Bool) → P (cond t (k .sum j) (k .difference j)) × P (cond t (k .difference j) (k .sum j))
+      go true = (s, d)
+      go false = (d, s)
 
   module _ (j : ℕ) (l : j < h) where
     greater-at : c (greaterPlace j) ≡ greaterOf (x j) (y j)
@@ -71,17 +74,43 @@ module _ {h n : ℕ} {x y c : ℕ → ℤ} (k : Layout h n x y c) where
     pub greater-is : valueSizes (greaterPlace j) ≡ sizes x y j
     greater-is = ap natAbs greater-at ∙ greater-size (x j) (y j)
 
+    pub lesser-is : valueSizes (lesserPlace j) ≡ lessers x y j
+    lesser-is = ap natAbs lesser-at ∙ lesser-size (x j) (y j)
+
     lesser-le : valueSizes (lesserPlace j) ≤ sizes x y j
     lesser-le = omega (arith, ap natAbs lesser-at, lesser-most (x j) (y j))
 
-    pub greater-below : greaterPlace j < n
-    greater-below = both (λ (u : ℕ). u < n) j (k .sum-below j l) (k .difference-below j l)
+    below : (greaterPlace j < n) × (lesserPlace j < n)
+    below = both (λ (u : ℕ). u < n) j (k .sum-below j l) (k .difference-below j l)
 
-    greater-pair : k .pair (greaterPlace j) ≡ j
-    greater-pair = both (λ (u : ℕ). k .pair u ≡ j) j (k .sum-pair j l) (k .difference-pair j l)
+    pub greater-below : greaterPlace j < n
+    greater-below = below .0
+
+    pub lesser-below : lesserPlace j < n
+    lesser-below = below .1
+
+    pair-of : (k .pair (greaterPlace j) ≡ j) × (k .pair (lesserPlace j) ≡ j)
+    pair-of = both (λ (u : ℕ). k .pair u ≡ j) j (k .sum-pair j l) (k .difference-pair j l)
+
+    own-apart : greaterPlace j ≢ lesserPlace j
+    own-apart = go (alike (x j) (y j))
+      where
+        go : (t : Bool) → cond t (k .sum j) (k .difference j) ≢ cond t (k .difference j) (k .sum j)
+        go true e = k .apart j l e
+        go false e = k .apart j l (sym e)
+
+  -- the places of two pairs
+  module _ {i j : ℕ} (m : i < h) (l : j < h) where
+    pub greaters-apart : i ≢ j → greaterPlace i ≢ greaterPlace j
+    greaters-apart d e = d (sym (pair-of i m .0) ∙ ap (k .pair) e ∙ pair-of j l .0)
+
+    pub lesser-apart : lesserPlace i ≢ greaterPlace j
+    lesser-apart e =
+        let same : i ≡ j = sym (pair-of i m .1) ∙ ap (k .pair) e ∙ pair-of j l .0 in
+        own-apart j l (sym e ∙ ap lesserPlace same)
 
   -- every place is one of a pair's
-  by-place : (P : ℕ → Type 0) → ((i : ℕ) → i < h → P (greaterPlace i)) → ((i : ℕ) → i < h → P (lesserPlace i)) → (v : ℕ) → v < n → P v
+  pub by-place : (P : ℕ → Type 0) → ((i : ℕ) → i < h → P (greaterPlace i)) → ((i : ℕ) → i < h → P (lesserPlace i)) → (v : ℕ) → v < n → P v
   by-place P g d v l = go (alike (x i) (y i)) (g i (k .pair-below v l)) (d i (k .pair-below v l)) (k .either v l)
     where
       i : ℕ
@@ -97,7 +126,7 @@ module _ {h n : ℕ} {x y c : ℕ → ℤ} (k : Layout h n x y c) where
 
   -- ---- the greatest
 
-  pairs-most : (b : ℕ) → ((j : ℕ) → j < h → sizes x y j ≤ b) → (v : ℕ) → v < n → valueSizes v ≤ b
+  pub pairs-most : (b : ℕ) → ((j : ℕ) → j < h → sizes x y j ≤ b) → (v : ℕ) → v < n → valueSizes v ≤ b
   pairs-most b most =
       by-place (λ (v : ℕ). valueSizes v ≤ b)
       (λ i l. omega (arith, greater-is i l, most i l))
@@ -133,19 +162,11 @@ module _ {h n : ℕ} {x y c : ℕ → ℤ} (k : Layout h n x y c) where
     first = greaterPlace j;
     second = lesserPlace j;
     first-below = greater-below j l;
-    second-below = other-below (alike (x j) (y j));
-    apart = apart-from (alike (x j) (y j));
+    second-below = lesser-below j l;
+    apart = own-apart j l;
     equal = omega (arith, greater-is j l, ap natAbs (lesser-at j l), lesser-equal (x j) (y j) z);
     most = λ v m. omega (arith, greater-is j l, pairs-most (sizes x y j) most v m);
   }
-    where
-      other-below : (t : Bool) → cond t (k .difference j) (k .sum j) < n
-      other-below true = k .difference-below j l
-      other-below false = k .sum-below j l
-
-      apart-from : (t : Bool) → cond t (k .sum j) (k .difference j) ≢ cond t (k .difference j) (k .sum j)
-      apart-from true e = k .apart j l e
-      apart-from false e = k .apart j l (sym e)
 
   -- two pairs have it
   pub pairs-share : Shared h (sizes x y) → Shared n valueSizes
@@ -159,7 +180,7 @@ module _ {h n : ℕ} {x y c : ℕ → ℤ} (k : Layout h n x y c) where
         second = greaterPlace j;
         first-below = greater-below i m;
         second-below = greater-below j l;
-        apart = λ e. s .apart (sym (greater-pair i m) ∙ ap (k .pair) e ∙ greater-pair j l);
+        apart = greaters-apart m l (s .apart);
         equal = greater-is i m ∙ s .equal ∙ sym (greater-is j l);
         most = λ v b. omega (arith, greater-is i m, pairs-most (sizes x y i) (s .most) v b);
       }

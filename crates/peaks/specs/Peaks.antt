@@ -1,5 +1,5 @@
 -- Numbers packed in one, the sizes of pairs, and the peak of some values. Assumes nothing.
-use Prim.Native.Nat.{ℕ, _+_, _-_, _≤_, _<_}
+use Prim.Native.Nat.{ℕ, _+_, _-_, _^_, _≤_, _<_}
 use mathlib.Core.Path.{_≡_}
 use mathlib.Core.Bool.{Bool, true, false, cond}
 use mathlib.Core.List.{List}
@@ -22,6 +22,10 @@ packedBy b x y = x +ℤ y *ℤ pos b
 abbrev pub pairSize : ℤ → ℤ → ℕ
 pairSize x y = natAbs x + natAbs y
 
+-- the other of them
+abbrev pub lesserSize : ℤ → ℤ → ℕ
+lesserSize x y = natAbs (pos (natAbs x) -ℤ pos (natAbs y))
+
 -- a list of sizes
 pub record Sizes (xs : List ℤ) : Type 0 where
   pub few : length xs ≤ 512
@@ -32,11 +36,31 @@ pub record Sizes (xs : List ℤ) : Type 0 where
 unfoldable pub keysBelow : ℕ → (ℕ → ℕ) → ℕ → ℕ
 keysBelow n f x = sumBelow n (λ i. cond (eqb (f i) x) (65536 + i) 0)
 
--- ---- peaks
-
 -- the sums of h pairs, then their differences
 abbrev pub joined : ℕ → (ℕ → ℤ) → (ℕ → ℤ) → ℕ → ℤ
 joined h x y u = cond (ltb u h) (x u +ℤ y u) (x (u - h) -ℤ y (u - h))
+
+-- ---- pairs in a list of h + h numbers: those at i and h + i
+
+-- few and small enough that 32 bits hold the size of a pair with its place
+pub record Pairs (h : ℕ) (xs : List ℤ) : Type 0 where
+  pub some : 0 < h
+  pub few : h ≤ 512
+  pub size : length xs ≡ h + h
+  pub small : (i : ℕ) → i < h + h → natAbs (at xs i) < 2 ^ 20
+
+-- the sizes of each
+abbrev pub pairSizes : ℕ → List ℤ → ℕ → ℕ
+pairSizes h xs i = pairSize (at xs i) (at xs (h + i))
+
+abbrev pub lesserSizes : ℕ → List ℤ → ℕ → ℕ
+lesserSizes h xs i = lesserSize (at xs i) (at xs (h + i))
+
+-- their sums, then their differences
+abbrev pub pairsJoined : ℕ → List ℤ → ℕ → ℤ
+pairsJoined h xs = joined h (at xs) (λ i. at xs (h + i))
+
+-- ---- peaks
 
 -- p is the place below n where the absolute value of c is greatest, where there is one alone
 pub record IsPeak (n : ℕ) (c : ℕ → ℤ) (p : Peak) : Type 0 where

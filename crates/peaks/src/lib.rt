@@ -6,7 +6,7 @@ ghost use lib.ListN.{length};
 ghost use lib.IntN.{pos, natAbs};
 ghost use Rattle.words.specs.Sum.{greatestBelow};
 ghost use Rattle.area.specs.Area.{sizeAt};
-ghost use Rattle.peaks.specs.Peaks.{keysBelow, Sizes, PeakAt};
+ghost use Rattle.peaks.specs.Peaks.{keysBelow, lesserSize, pairSize, Sizes, PeakAt};
 
 // The mask of the greatest absolute correlation, where it is the only one, and its correlation's sign as a codeword's constant.
 pub struct Peak {
@@ -21,6 +21,22 @@ pub fn absolute(x: i32) -> i32
     ensures { λ r. ⌜ r ≡ pos (natAbs x) ⌝ }
 {
     if x < 0 { 0 - x } else { x }
+}
+
+// The size of a pair.
+pub fn size_of(x: i32, y: i32) -> i32
+    requires { ⌜ (natAbs x < 2 ^ 29) × (natAbs y < 2 ^ 29) ⌝ }
+    ensures { λ s. ⌜ s ≡ pos (pairSize x y) ⌝ }
+{
+    absolute(x) + absolute(y)
+}
+
+// The other size of a pair.
+pub fn lesser_of(x: i32, y: i32) -> i32
+    requires { ⌜ (natAbs x < 2 ^ 29) × (natAbs y < 2 ^ 29) ⌝ }
+    ensures { λ s. ⌜ s ≡ pos (lesserSize x y) ⌝ }
+{
+    absolute(absolute(x) - absolute(y))
 }
 
 // The greatest of some sizes.

@@ -1,19 +1,16 @@
 -- Keys of 32 signed bits, as a search for the greatest computes them: 512 times a size, and a number below 512. Assumes nothing.
 use Prim.Native.Nat.{ℕ, _+_, _-_, _*_, _%_, _^_, _<_}
-use mathlib.Core.Path.{_≡_, refl, sym, ap, ap₂, _∙_}
-use mathlib.Core.Bool.{true, false}
+use mathlib.Core.Path.{_≡_, refl, ap, ap₂, _∙_}
 use native.Mathlib.Omega.{arith}
 use lib.Dec.{T}
 use lib.IntN.{ℤ, pos, natAbs, _+ℤ_, _-ℤ_, _*ℤ_}
-use lib.Signed.{mag, nonNeg, ltZ, quotZ, remZ}
+use lib.Signed.{mag, nonNeg, quotZ, remZ}
 use mir.Syntax.{w32, w64}
 use mir.Val.{Fits, SFits, toZ, ofZ}
 use mir.Facts.{toZ-ofZ}
 use borrow.Author.Tests.{le-ltb}
-use Rattle.words.specs.Sum.{greatestBelow, total}
 use Rattle.area.specs.Numbers.{stored, stored-eq, fits-32}
-use Rattle.hadamard.specs.Peak.{greatest-more}
-use Rattle.peaks.specs.Casts.{size-held, size-below, size-above}
+use Rattle.peaks.specs.Casts.{size-held}
 use Rattle.peaks.specs.Stored.{as-it-is, lower-fits}
 
 -- ---- a number below 512, counted up and down
@@ -69,42 +66,3 @@ module _ {n : ℕ} {z : ℤ} (e : z ≡ pos n) (l : mag z < 2 ^ 31) where
 
   pub rest-is : natAbs (stored (remZ (stored z) (pos 512))) ≡ n % 512
   rest-is = ap natAbs rest-read
-
--- ---- the greatest of f 0, .., f (n - 1), as a loop finds it
-
-pub record Greatest (n : ℕ) (f : ℕ → ℕ) (a : ℕ) : Type 0 where
-  pub small : a < 2 ^ 30
-  pub is : a ≡ greatestBelow n f
-
-pub greatest-none : {f : ℕ → ℕ} → Greatest 0 f 0
-unfolding total
-greatest-none = record { small = omega arith; is = refl }
-
-pub greatest-read : {n m : ℕ} {f : ℕ → ℕ} {a : ℕ} → Greatest n f a → n ≡ m → toZ w32 a ≡ pos (greatestBelow m f)
-greatest-read {n} {m} {f} {a} g e = size-held a (omega (arith, g .small)) ∙ ap pos (g .is ∙ ap (λ (k : ℕ). greatestBelow k f) e)
-
--- a turn, whose number is z
-module _ {n : ℕ} {f : ℕ → ℕ} {a : ℕ} (g : Greatest n f a) {z : ℤ} (e : z ≡ pos (f n)) (small : f n < 2 ^ 30) where
-  whole : z ≡ pos (natAbs z)
-  whole = e ∙ ap (λ (y : ℤ). pos (natAbs y)) (sym e)
-
-  old-small : a < 2 ^ 31
-  old-small = omega (arith, g .small)
-
-  new-small : natAbs z < 2 ^ 31
-  new-small = omega (arith, ap natAbs e)
-
-  pub greatest-new : {b : ℕ} → ltZ (toZ w32 a) (stored z) ≡ true → b ≡ ofZ w32 z → Greatest (n + 1) f b
-  greatest-new {b} t eb = record {
-    small = omega (arith, now);
-    is = omega (arith, now, g .is, greatest-more f n, ap natAbs e, size-below a z old-small new-small whole t);
-  }
-    where
-      now : b ≡ f n
-      now = eb ∙ ap (ofZ w32) e
-
-  pub greatest-kept : {b : ℕ} → ltZ (toZ w32 a) (stored z) ≡ false → b ≡ a → Greatest (n + 1) f b
-  greatest-kept t eb = record {
-    small = omega (arith, eb, g .small);
-    is = omega (arith, eb, g .is, greatest-more f n, ap natAbs e, size-above a z old-small new-small whole t);
-  }

@@ -1,16 +1,14 @@
 -- What a leaf reading of values asks, leaves and tells. Assumes nothing.
-use Prim.Native.Nat.{ℕ, _+_, _^_, _≤_, _<_}
+use Prim.Native.Nat.{ℕ, _^_}
 use mathlib.Core.Path.{_≡_}
 use mathlib.Core.Bool.{Bool, true, false, not, cond, _&&_}
 use mathlib.Core.List.{List}
 use lib.Dec.{eqb}
 use lib.IntN.{ℤ, natAbs}
-use lib.ListN.{length}
 use Rattle.words.specs.Sum.{allBelow}
 use Rattle.area.specs.Area.{at}
 use Rattle.code.specs.Code.{codewordTest}
 use Rattle.hadamard.specs.Correlation.{constantOf}
-use Rattle.peaks.specs.Peaks.{joined, pairSize}
 use Rattle.rule.specs.Reading.{Outcome, accepted, refused}
 use Rattle.rule.specs.Decoding.{refusalOf}
 use Rattle.told.specs.Told.{Holds}
@@ -40,23 +38,6 @@ pub record LeafBits (n : ℕ) (o : Outcome) (ys : List ℤ) (b : Bool) : Type 0 
 -- the place that an outcome names, p being the lowest of value 0: of a reading's refusals only 17 names one
 abbrev pub placeIn : Outcome → ℕ → ℕ
 placeIn o p = cond (eqb (refusalOf o) 17) p 0
-
--- ---- pairs: the numbers i and h + i of a list of h + h
-
--- few and small enough that 32 bits hold the size of a pair with its place
-pub record Pairs (h : ℕ) (xs : List ℤ) : Type 0 where
-  pub some : 0 < h
-  pub few : h ≤ 512
-  pub size : length xs ≡ h + h
-  pub small : (i : ℕ) → i < h + h → natAbs (at xs i) < 2 ^ 20
-
--- the size of each
-abbrev pub pairSizes : ℕ → List ℤ → ℕ → ℕ
-pairSizes h xs i = pairSize (at xs i) (at xs (h + i))
-
--- their sums, then their differences
-abbrev pub pairsJoined : ℕ → List ℤ → ℕ → ℤ
-pairsJoined h xs = joined h (at xs) (λ i. at xs (h + i))
 
 -- ---- values that are a codeword of order 1 already
 

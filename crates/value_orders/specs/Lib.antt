@@ -1,7 +1,6 @@
 -- What a leaf asks, leaves and tells: Leaves; signs by doubling: Doubling. The rest are laws.
 pub mod Leaves
 pub mod Doubling
-pub mod PairLaws
 pub mod KeyLaws
 pub mod Places
 pub mod PeakLaws

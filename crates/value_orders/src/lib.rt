@@ -27,10 +27,8 @@ fn find_peak(m: usize, part: &mut [i32]) -> Peak
     requires { ⌜ (1 ≤ m) × (m ≤ 10) × (length (now part) ≡ 2 ^ m) × Values (2 ^ m) (now part) ⌝ }
     ensures { λ p. ⌜ IsPeak (2 ^ m) (correlation m (at (now (part .entry)))) p ⌝ }
 {
-    let n = part.len();
     let h = words::size(m - 1);
-    correlations::correlate(&mut part[0..h], m - 1);
-    correlations::correlate(&mut part[h..n], m - 1);
+    correlations::correlate_halves(part, m - 1);
     pairs::search(h, part)
 }
 

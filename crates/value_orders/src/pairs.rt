@@ -1,20 +1,11 @@
 // The greatest of the sums and differences of pairs: the numbers i and h + i of a part, which the last level of the transform would join. It
 // is not made: of x + y and x - y the greater has size |x| + |y|.
 ghost use mathlib.Core.Path.{_≡_};
-ghost use Prim.Native.Nat.{_+_, _-_, _*_, _^_, _<_};
-ghost use lib.IntN.{pos, natAbs};
+ghost use Prim.Native.Nat.{_+_, _-_, _*_};
+ghost use lib.IntN.{pos};
 ghost use Rattle.words.specs.Sum.{greatestBelow};
-ghost use Rattle.peaks.specs.Peaks.{pairSize, IsPeak};
-ghost use Rattle.value_orders.specs.Leaves.{Pairs, pairSizes, pairsJoined};
+ghost use Rattle.peaks.specs.Peaks.{IsPeak, Pairs, pairSizes, pairsJoined};
 use peaks::Peak;
-
-// The size of a pair.
-fn size_of(x: i32, y: i32) -> i32
-    requires { ⌜ (natAbs x < 2 ^ 29) × (natAbs y < 2 ^ 29) ⌝ }
-    ensures { λ s. ⌜ s ≡ pos (pairSize x y) ⌝ }
-{
-    peaks::absolute(x) + peaks::absolute(y)
-}
 
 // The greatest keys of some pairs: 512 times the size, and with it the place or what is left to 511. Of equal sizes the last place wins by the
 // one and the first by the other.
@@ -35,7 +26,7 @@ fn ends(h: usize, part: &[i32]) -> Keys
     let mut down: i32 = 511;
     let mut i = 0;
     while i < h {
-        let x = size_of(part[i], part[h + i]) * 512;
+        let x = peaks::size_of(part[i], part[h + i]) * 512;
         let y = x + up;
         let z = x + down;
         if last < y {

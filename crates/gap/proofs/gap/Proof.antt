@@ -52,6 +52,7 @@ measure-requires : tie.Need-measure-requires
 measure-requires c κs =
     let k = c .before in
     record {
+      some = passed-of (k .before) .some;
       most = passed-of (k .before) .most;
       input = passed-of (k .before) .input;
       room = front-length {A = ℤ} _ _ (fits k) ∙ k .size .ensures;

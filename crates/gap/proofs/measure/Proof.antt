@@ -2,7 +2,7 @@
 use mathlib.Core.Path.{sym, _∙_}
 use native.Mathlib.Omega.{arith}
 use borrow.Author.Needs.{needs}
-use Rattle.gap.specs.CallLaws.{gap-is, signs-summable, sizes-small}
+use Rattle.gap.specs.CallLaws.{gap-is, halves-small, signs-halved}
 use Rattle.gap.specs.GapLaws.{gap-codeword}
 use Rattle.gap.proofs.measure.Statement.{statement}
 use Rattle.gap.proofs.measure.Tie as tie
@@ -18,24 +18,28 @@ returns c =
 signs-requires : tie.Need-signs-requires
 signs-requires c κs = let h = c .before .before .before .before .pre in omega (arith, h .input .size, h .room)
 
-correlate-requires : tie.Need-correlate-requires
-correlate-requires c κs =
+sub-correlate-halves : tie.Need-sub-correlate-halves
+sub-correlate-halves c = c .before .before .before .before .before .before .before .pre .some
+
+correlate-halves-requires : tie.Need-correlate-halves-requires
+correlate-halves-requires c κs =
     let s = c .before .before in
-    signs-summable (s .before .before .before .before .before .pre) (s .signs .ensures)
+    signs-halved (s .before .before .before .before .before .pre) (s .signs .ensures)
 
 widest-requires : tie.Need-widest-requires
 widest-requires c κs =
-    let s = c .before .before .before .before .before in
-    sizes-small (s .before .before .before .before .before .pre) (s .signs .ensures) (c .before .before .correlate .ensures)
+    let t = c .before .before in
+    let s = t .before .before .before in
+    halves-small (s .before .before .before .before .before .pre) (s .signs .ensures) (t .correlate-halves .ensures)
 
 same-length : tie.Need-same-length
 same-length c = search needs
 
 returns-2 : tie.Need-returns-2
 returns-2 c =
-    let t = c .before .before .before in
+    let t = c .before .before .before .before in
     let s = t .before .before .before in
-    c .widest .ensures ∙ gap-is (s .before .before .before .before .before .pre) (s .signs .ensures) (t .correlate .ensures)
+    c .before .widest .ensures ∙ gap-is (s .before .before .before .before .before .pre) (s .signs .ensures) (t .correlate-halves .ensures)
 
 pub measure-spec : {M : Type 1} → statement M
 measure-spec =
@@ -44,7 +48,8 @@ measure-spec =
     known-codeword-requires
     returns
     signs-requires
-    correlate-requires
+    sub-correlate-halves
+    correlate-halves-requires
     widest-requires
     same-length
     returns-2)

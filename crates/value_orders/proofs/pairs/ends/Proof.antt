@@ -5,10 +5,10 @@ use mathlib.Core.Logic.{⊎-elim}
 use native.Mathlib.Omega.{arith}
 use lib.IntN.{pos}
 use borrow.Author.Needs.{needs}
-use Rattle.value_orders.specs.Leaves.{pairSizes}
-use Rattle.value_orders.specs.PairLaws.{pair-asked, pair-small, pair-is}
+use Rattle.peaks.specs.Peaks.{pairSizes}
+use Rattle.peaks.specs.PairLaws.{pair-asked, pair-small, pair-is}
 use Rattle.value_orders.specs.KeyLaws.{up-fits, up-is, down-fits, down-is, scaled-fits, key-fits, key-is}
-use Rattle.value_orders.specs.KeyLaws.{Greatest, greatest-none, greatest-read, greatest-new, greatest-kept}
+use Rattle.peaks.specs.Searches.{Greatest, greatest-none, greatest-read, greatest-new, greatest-kept}
 use Rattle.value_orders.specs.Places.{upKey, downKey}
 use Rattle.value_orders.proofs.pairs.ends.Statement.{statement}
 use Rattle.value_orders.proofs.pairs.ends.Tie as tie

@@ -9,9 +9,9 @@ use Rattle.words.specs.Sum.{greatestBelow}
 use Rattle.area.specs.Area.{at}
 use Rattle.area.specs.Numbers.{stored}
 use Rattle.peaks.specs.Stored.{peak-as}
-use Rattle.value_orders.specs.Leaves.{pairSizes}
+use Rattle.peaks.specs.Peaks.{pairSizes}
 use Rattle.value_orders.specs.Places.{downKey, lastPlace, firstPlace, last-below, places-apart, places-meet}
-use Rattle.value_orders.specs.PairLaws.{first-read, second-read}
+use Rattle.peaks.specs.PairLaws.{first-read, second-read}
 use Rattle.value_orders.specs.KeyLaws.{quotient-fits, rest-casts, rest-is}
 use Rattle.value_orders.proofs.pairs.search.Statement.{statement}
 use Rattle.value_orders.proofs.pairs.search.Tie as tie

@@ -1,7 +1,7 @@
--- `value_orders::pairs::size_of` meets its contract. Assumes nothing.
-use Rattle.value_orders.specs.PairLaws.{size-asked, pair-fits, pair-added}
-use Rattle.value_orders.proofs.pairs.size_of.Statement.{statement}
-use Rattle.value_orders.proofs.pairs.size_of.Tie as tie
+-- `peaks::size_of` meets its contract. Assumes nothing.
+use Rattle.peaks.specs.PairLaws.{size-asked, pair-fits, pair-added}
+use Rattle.peaks.proofs.size_of.Statement.{statement}
+use Rattle.peaks.proofs.size_of.Tie as tie
 
 absolute-requires : tie.Need-absolute-requires
 absolute-requires c κs = size-asked (c .args .x) (c .pre .0)

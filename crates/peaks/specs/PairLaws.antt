@@ -3,13 +3,13 @@ use Prim.Native.Nat.{ℕ, _+_, _^_, _<_}
 use mathlib.Core.Path.{_≡_, ap, ap₂, _∙_}
 use mathlib.Core.List.{List}
 use native.Mathlib.Omega.{arith}
-use lib.IntN.{ℤ, pos, natAbs, _+ℤ_}
+use lib.IntN.{ℤ, pos, natAbs, _+ℤ_, _-ℤ_}
 use mir.Syntax.{w32}
 use mir.Val.{SFits}
 use Rattle.area.specs.Area.{at}
-use Rattle.area.specs.Numbers.{Half, stored, stored-eq, sum-fits, sum-stored}
-use Rattle.peaks.specs.Peaks.{pairSize}
-use Rattle.value_orders.specs.Leaves.{Pairs, pairSizes}
+use Rattle.area.specs.Numbers.{Half, difference-fits, difference-stored, stored, stored-eq, sum-fits, sum-stored}
+use Rattle.peaks.specs.OnePair.{lesser-most, lesser-size}
+use Rattle.peaks.specs.Peaks.{Pairs, lesserSize, lesserSizes, pairSize, pairSizes}
 
 -- ---- one pair
 
@@ -34,6 +34,19 @@ module _ (x y : ℤ) (hx : natAbs x < 2 ^ 29) (hy : natAbs y < 2 ^ 29) {a b : �
   pub pair-added : stored (stored a +ℤ stored b) ≡ pos (pairSize x y)
   pair-added = sum-stored (size-half x hx ea) (size-half y hy eb) ∙ ap₂ _+ℤ_ (size-is x hx ea) (size-is y hy eb)
 
+  -- the difference of the two sizes
+  pub rest-fits : SFits w32 (stored a -ℤ stored b)
+  rest-fits = difference-fits (size-half x hx ea) (size-half y hy eb)
+
+  rest-read : stored (stored a -ℤ stored b) ≡ pos (natAbs x) -ℤ pos (natAbs y)
+  rest-read = difference-stored (size-half x hx ea) (size-half y hy eb) ∙ ap₂ _-ℤ_ (size-is x hx ea) (size-is y hy eb)
+
+  pub rest-asked : natAbs (stored (stored a -ℤ stored b)) < 2 ^ 31
+  rest-asked = rw rest-read (omega (arith, lesser-size x y, lesser-most x y))
+
+  pub rest-is : {d : ℤ} → d ≡ pos (natAbs (stored (stored a -ℤ stored b))) → d ≡ pos (lesserSize x y)
+  rest-is e = e ∙ ap (λ (z : ℤ). pos (natAbs z)) rest-read
+
 -- ---- pair i of a list
 
 module _ {h : ℕ} {xs : List ℤ} (k : Pairs h xs) {i : ℕ} (l : i < h) where
@@ -57,3 +70,9 @@ module _ {h : ℕ} {xs : List ℤ} (k : Pairs h xs) {i : ℕ} (l : i < h) where
 
   pub pair-is : {x : ℤ} → x ≡ pos (pairSize (stored (at xs i)) (stored (at xs (h + i)))) → x ≡ pos (pairSizes h xs i)
   pair-is e = e ∙ ap₂ (λ (y z : ℤ). pos (pairSize y z)) first-read second-read
+
+  pub lesser-small : lesserSizes h xs i < 2 ^ 21
+  lesser-small = omega (arith, lesser-size (at xs i) (at xs (h + i)), lesser-most (at xs i) (at xs (h + i)), pair-small)
+
+  pub lesser-read : {x : ℤ} → x ≡ pos (lesserSize (stored (at xs i)) (stored (at xs (h + i)))) → x ≡ pos (lesserSizes h xs i)
+  lesser-read e = e ∙ ap₂ (λ (y z : ℤ). pos (lesserSize y z)) first-read second-read
