@@ -51,5 +51,5 @@ pub fn correlate(k: usize, word: &[u8], area: &mut [i32])
 {
     load(k, word, area);
     let q = words::size(k);
-    correlations::levels(&mut area[0..q], 8);
+    correlations::levels(&mut area[0..q], 8, q);
 }

@@ -1,115 +1,116 @@
--- The halves of a list are lent, transformed, and come back. Assumes nothing.
-use Prim.Native.Nat.{ℕ, _+_, _*_, _^_, _≤_, _<_}
-use mathlib.Core.Path.{_≡_, ap, _∙_}
-use mathlib.Core.List.{List}
+-- The levels of a transform without its last one give the transform of each half. Assumes nothing.
+use Prim.Native.Nat.{ℕ, zero, suc, _+_, _*_, _/_, _^_, _≤_, _<_}
+use mathlib.Core.Path.{_≡_, refl, sym, ap, ap₂, _∙_}
+use mathlib.Core.List.{List, _++_}
 use native.Mathlib.Decide.{decLt}
-use native.Mathlib.Nat.{zero-mul}
+use native.Mathlib.Nat.{eq-of-mul-eq-mul-right, mul-one}
 use native.Mathlib.Omega.{arith}
-use borrow.Rule.Slice.PartMut.{putMid}
-use lib.IntN.{ℤ, pos, natAbs}
-use lib.ListN.{length, take, drop, List·getD-eq-default}
-use Rattle.words.specs.Sum.{tabulate}
-use Rattle.words.specs.SumLaws.{getD-tabulate, length-tabulate}
-use Rattle.words.specs.Parts.{part-length, part-at, written-part}
-use Rattle.words.specs.Written.{Written, written-none}
+use lib.IntN.{ℤ, pos}
+use lib.ListN.{length, take, drop, take-append-drop, List·getD-append}
+use lib.Pow.{pow-lt, pow-pos}
+use lib.Seq.{getD-append-add}
+use Rattle.words.specs.Butterflies.{Rule, blocks, halved}
+use Rattle.words.specs.ButterflyLaws.{halved-zero, length-halved}
+use Rattle.words.specs.Levels.{Transformed, transformed-blocks}
+use Rattle.words.specs.Parts.{part-at, part-length}
+use Rattle.words.specs.SumLaws.{getD-tabulate}
 use Rattle.area.specs.Area.{at}
 use Rattle.hadamard.specs.Correlation.{correlation}
 use Rattle.hadamard.specs.CorrelationLaws.{correlation-ext}
 use Rattle.hadamard.specs.Summable.{Summable}
-use Rattle.correlations.specs.Halves.{Halved, HalvesDone}
+use Rattle.hadamard.specs.Transform.{sums, summable-entries, halved-correlation}
+use Rattle.correlations.specs.Begun.{Blockwise, End, end-at}
+use Rattle.correlations.specs.Halves.{HalvesDone}
 
--- numbers that fill their list
-summable : {k : ℕ} {xs : List ℤ} → length xs ≡ 2 ^ k → ((p : ℕ) → p < 2 ^ k → natAbs (at xs p) * 2 ^ k < 2 ^ 31) → Summable k xs
-summable {k} {xs} size small = record {
-  size = size;
-  small = λ p. elim (decLt p (2 ^ k)) [
-    | yes l ↦ small p l
-    | no m ↦ rw (List·getD-eq-default xs (pos 0) {n = p} (omega (arith, size))) (omega (arith, zero-mul (2 ^ k)))
-  ];
+-- ---- before the first level
+
+blocks-zero : {A : Type 0} (R : Rule A) (s n : ℕ) (a : List A) → a ≡ blocks (halved R 0) s n a
+unfolding blocks
+blocks-zero R s zero a = refl
+blocks-zero R s (suc n) a = rw (← halved-zero R (take s a), ← blocks-zero R s n (drop s a)) (sym (take-append-drop s a))
+
+-- each number is a block
+pub blocks-of-one : {m : ℕ} {x : List ℤ} → Summable m x → Blockwise 1 m x x
+blocks-of-one {m} {x} s = record {
+  summable = s;
+  transformed = transformed-blocks sums (summable-entries s) 0 (omega arith) record {
+    count = length x;
+    place = sym (mul-one (length x));
+    within = omega arith;
+    size = refl;
+    done = blocks-zero sums 1 (length x) x;
+  };
 }
 
--- the first j numbers, then the i from h on
-pub record Lent (k h i j : ℕ) : Type 0 where
-  pub half : h ≡ 2 ^ k
-  pub first : j ≡ h
-  pub second : i ≡ h
+-- ---- the levels of the halves
 
-module _ {k h i j : ℕ} {xs : List ℤ} (a : Halved k xs) (b : Lent k h i j) where
-  room : 0 + j ≤ length xs
-  room = omega (arith, a .size, b .first, b .half)
+module _ {k : ℕ} {x : List ℤ} (s : Summable (suc k) x) where
+  pub half : length x / 2 ≡ 2 ^ k
+  half = omega (arith, s .size)
 
-  -- ---- the first half
+  pub half-end : {a : List ℤ} (j : ℕ) → length a ≡ length x → j ≤ k → End (2 ^ j) (length x / 2) a
+  half-end j n l = end-at j k half l (omega arith)
+
+-- ---- after the last level
+
+-- the transform of the 2 ^ k numbers from place b on
+part-transformed :
+    (k b : ℕ) (x : List ℤ) → b + 2 ^ k ≤ length x → (u : ℕ) → u < 2 ^ k
+    → at (halved sums k (take (2 ^ k) (drop b x))) u ≡ correlation k (λ p. at x (b + p)) u
+part-transformed k b x l u g =
+    let part : List ℤ = take (2 ^ k) (drop b x) in
+    ap (λ (y : List ℤ). at y u) (halved-correlation k part (part-length (pos 0) b (2 ^ k) x l))
+    ∙ getD-tabulate (2 ^ k) (correlation k (at part)) (pos 0) u g
+    ∙ correlation-ext k (at part) (λ p. at x (b + p)) (part-at (pos 0) b (2 ^ k) x l) u
+
+-- the blocks of half the numbers are two
+module _ {k h : ℕ} {x a : List ℤ} (b : Blockwise h (suc k) x a) (eh : h ≡ 2 ^ k) where
+  abbrev t : Transformed sums (suc k) h x a
+  t = b .transformed
+
+  exponent-is : t .exponent ≡ k
+  exponent-is = elim (decLt (t .exponent) k) [
+    | yes l ↦ absurd (omega (arith, pow-lt l, t .height, eh))
+    | no m ↦ elim (decLt k (t .exponent)) [
+      | yes l ↦ absurd (omega (arith, pow-lt l, t .height, eh))
+      | no n ↦ omega arith
+    ]
+  ]
+
+  size : length x ≡ 2 ^ k + 2 ^ k
+  size = omega (arith, b .summable .size)
+
+  two : t .done .count ≡ 2
+  two =
+      eq-of-mul-eq-mul-right (2 ^ k) (pow-pos k) (t .done .count) 2
+      (ap (λ (i : ℕ). t .done .count * 2 ^ i) (sym exponent-is) ∙ sym (t .done .place) ∙ size ∙ omega arith)
 
   abbrev low : List ℤ
-  low = take j (drop 0 xs)
+  low = halved sums k (take (2 ^ k) x)
 
-  low-at : (p : ℕ) → p < 2 ^ k → at low p ≡ at xs p
-  low-at p l = part-at (pos 0) 0 j xs room p (omega (arith, b .first, b .half)) ∙ ap (at xs) (omega arith)
+  abbrev high : List ℤ
+  high = halved sums k (take (2 ^ k) (drop (2 ^ k) x))
 
-  low-size : length low ≡ 2 ^ k
-  low-size = part-length (pos 0) 0 j xs room ∙ b .first ∙ b .half
+  abbrev rest : List ℤ
+  rest = drop (2 ^ k) (drop (2 ^ k) x)
 
-  pub low-summable : Summable k low
-  low-summable = summable low-size (λ p l. rw (low-at p l) (a .small p (omega arith)))
+  both : a ≡ low ++ (high ++ rest)
+  unfolding blocks
+  both = t .done .done ∙ ap₂ (λ (i n : ℕ). blocks (halved sums i) (2 ^ i) n x) exponent-is two
 
-  -- it is transformed to ys, and comes back
-  module _ {ys : List ℤ} (ey : ys ≡ tabulate (2 ^ k) (correlation k (at low))) where
-    abbrev mid : List ℤ
-    mid = putMid 0 j xs ys
+  low-length : length low ≡ 2 ^ k
+  low-length = length-halved sums k _ (part-length (pos 0) 0 (2 ^ k) x (omega (arith, size)))
 
-    ys-at : (u : ℕ) → u < 2 ^ k → at ys u ≡ correlation k (at low) u
-    ys-at u l = rw ey (getD-tabulate (2 ^ k) _ (pos 0) u l)
+  high-length : length high ≡ 2 ^ k
+  high-length = length-halved sums k _ (part-length (pos 0) (2 ^ k) (2 ^ k) x (omega (arith, size)))
 
-    ys-size : length ys ≡ j
-    ys-size = ap length ey ∙ length-tabulate (2 ^ k) _ ∙ omega (arith, b .first, b .half)
-
-    low-written : Written (pos 0) 0 (0 + j) (correlation k (at low)) xs mid
-    low-written =
-        written-part (written-none _ _ _ _) 0 j ys (omega arith) room ys-size
-        (λ q l. ys-at q (omega (arith, b .first, b .half)) ∙ ap (correlation k (at low)) (omega arith))
-
-    -- ---- the second half
-
-    room-high : h + i ≤ length mid
-    room-high = omega (arith, b .second, b .half, low-written .long, a .size)
-
-    abbrev high : List ℤ
-    high = take i (drop h mid)
-
-    high-at : (p : ℕ) → p < 2 ^ k → at high p ≡ at xs (2 ^ k + p)
-    high-at p l =
-        part-at (pos 0) h i mid room-high p (omega (arith, b .second, b .half))
-        ∙ low-written .above (h + p) (omega (arith, b .first)) ∙ ap (at xs) (omega (arith, b .half))
-
-    high-size : length high ≡ 2 ^ k
-    high-size = part-length (pos 0) h i mid room-high ∙ b .second ∙ b .half
-
-    pub high-summable : Summable k high
-    high-summable = summable high-size (λ p l. rw (high-at p l) (a .small (2 ^ k + p) (omega arith)))
-
-    -- it is transformed to zs, and comes back
-    module _ {zs : List ℤ} (ez : zs ≡ tabulate (2 ^ k) (correlation k (at high))) where
-      abbrev back : List ℤ
-      back = putMid h i mid zs
-
-      zs-at : (u : ℕ) → u < 2 ^ k → at zs u ≡ correlation k (at high) u
-      zs-at u l = rw ez (getD-tabulate (2 ^ k) _ (pos 0) u l)
-
-      zs-size : length zs ≡ i
-      zs-size = ap length ez ∙ length-tabulate (2 ^ k) _ ∙ omega (arith, b .second, b .half)
-
-      high-written : Written (pos 0) h (0 + i) (correlation k (at high)) mid back
-      high-written =
-          written-part (written-none _ _ _ _) h i zs (omega arith) room-high zs-size
-          (λ q l. zs-at q (omega (arith, b .second, b .half)) ∙ ap (correlation k (at high)) (omega arith))
-
-      pub halves-done : HalvesDone k xs back
-      halves-done = record {
-        long = high-written .long ∙ low-written .long;
-        first = λ u l.
-            high-written .below u (omega (arith, b .half)) ∙ ap (at mid) (omega arith)
-            ∙ low-written .within u (omega (arith, b .first, b .half)) ∙ correlation-ext k (at low) (at xs) low-at u;
-        second = λ u l.
-            ap (at back) (omega (arith, b .half)) ∙ high-written .within u (omega (arith, b .second, b .half))
-            ∙ correlation-ext k (at high) (λ p. at xs (2 ^ k + p)) high-at u;
-      }
+  pub halves-done : HalvesDone k x a
+  halves-done = record {
+    long = t .done .size;
+    first = λ u l. rw both
+        (List·getD-append low (high ++ rest) (pos 0) u (omega (arith, low-length))
+        ∙ part-transformed k 0 x (omega (arith, size)) u l ∙ correlation-ext k _ (at x) (λ p g. ap (at x) (omega arith)) u);
+    second = λ u l. rw both
+        (ap (λ (i : ℕ). at (low ++ (high ++ rest)) (i + u)) (sym low-length) ∙ getD-append-add low (high ++ rest) u (pos 0)
+        ∙ List·getD-append high rest (pos 0) u (omega (arith, high-length)) ∙ part-transformed k (2 ^ k) x (omega (arith, size)) u l);
+  }

@@ -1,16 +1,11 @@
 -- The transform of each half of a list. Assumes nothing.
-use Prim.Native.Nat.{ℕ, _+_, _*_, _^_, _<_}
+use Prim.Native.Nat.{ℕ, _+_, _^_, _<_}
 use mathlib.Core.Path.{_≡_}
 use mathlib.Core.List.{List}
-use lib.IntN.{ℤ, natAbs}
+use lib.IntN.{ℤ}
 use lib.ListN.{length}
 use Rattle.area.specs.Area.{at}
 use Rattle.hadamard.specs.Correlation.{correlation}
-
--- two halves of 2 ^ k numbers, small enough that k levels of sums fit 32 bits
-pub record Halved (k : ℕ) (xs : List ℤ) : Type 0 where
-  pub size : length xs ≡ 2 ^ k + 2 ^ k
-  pub small : (p : ℕ) → p < 2 ^ k + 2 ^ k → natAbs (at xs p) * 2 ^ k < 2 ^ 31
 
 -- ys has the correlations of each half of xs
 pub record HalvesDone (k : ℕ) (xs ys : List ℤ) : Type 0 where

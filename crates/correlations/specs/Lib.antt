@@ -1,4 +1,4 @@
--- What the levels ask: Begun. Two levels at once: Twice, and Columns with laws. The transform of each half: Halves, and HalfLaws with laws. Fours has laws.
+-- What the levels ask: Begun, with laws. Two levels at once: Twice, and Columns with laws. The transform of each half: Halves, and HalfLaws with laws. Fours has laws.
 pub mod Fours
 pub mod Begun
 pub mod Twice

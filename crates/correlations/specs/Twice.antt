@@ -9,7 +9,7 @@ use lib.Pow.{pow-pos, pow-mono}
 use lib.ListN.{length, take, drop, length-append, length-drop}
 use lib.Seq.{length-take-le, take-add, take-at, drop-at, drop-drop}
 use Rattle.words.specs.Blocks.{Keeps, length-blocks}
-use Rattle.words.specs.Butterflies.{Blocked, BlocksDone, Entries, Roomy, Rule, blocks, butterflies}
+use Rattle.words.specs.Butterflies.{Blocked, BlocksDone, Entries, Rule, blocks, butterflies}
 use Rattle.words.specs.ButterflyLaws.{length-butterflies}
 use Rattle.words.specs.Levels.{Transformed, butterflies-keep, level-done, transformed-length, transformed-room, whole-blocks}
 use Rattle.words.specs.SumLaws.{le-or-lt}

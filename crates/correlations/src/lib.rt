@@ -1,7 +1,7 @@
 // Correlations by the fast Hadamard transform.
 ghost use mathlib.Core.Path.{_≡_};
 ghost use mathlib.Core.List.{List};
-ghost use Prim.Native.Nat.{ℕ, _^_};
+ghost use Prim.Native.Nat.{ℕ, suc, _^_};
 ghost use lib.IntN.{ℤ};
 ghost use lib.ListN.{length};
 ghost use Rattle.words.specs.Sum.{tabulate};
@@ -10,8 +10,8 @@ ghost use Rattle.area.specs.Area.{at};
 ghost use Rattle.hadamard.specs.Correlation.{correlation};
 ghost use Rattle.hadamard.specs.Summable.{Summable};
 ghost use Rattle.hadamard.specs.Transform.{sums};
-ghost use Rattle.correlations.specs.Begun.{Begun, Blockwise};
-ghost use Rattle.correlations.specs.Halves.{Halved, HalvesDone};
+ghost use Rattle.correlations.specs.Begun.{Begun, Blockwise, End};
+ghost use Rattle.correlations.specs.Halves.{HalvesDone};
 use hadamard::butterfly;
 use hadamard::level;
 use hadamard::two;
@@ -62,40 +62,53 @@ fn fours(a: &mut [i32])
     }
 }
 
-// The levels from the blocks of `first` numbers on, one at a time.
-pub fn levels(a: &mut [i32], first: usize)
-    requires { ⌜ Begun first (now a) ⌝ }
-    ensures { λ _. ⌜ ((m : ℕ) (x : List ℤ) → Blockwise first m x (now (a .entry)) → now (a .exit) ≡ tabulate (2 ^ m) (correlation m (at x))) ⌝ }
+// The transform of each block of 8 numbers.
+fn eights(a: &mut [i32])
+    requires { ⌜ Blocked sums 8 3 (now a) ⌝ }
+    ensures { λ _. ⌜ BlocksDone (halved sums 3) 8 (length (now (a .entry))) (now (a .entry)) (now (a .exit)) ⌝ }
+{
+    let n = a.len();
+    let mut b = 0;
+    while b < n {
+        let e = b + 8;
+        eight(&mut a[b..e]);
+        b = e;
+    }
+}
+
+// The levels from the blocks of `first` numbers to those of `end`, one at a time.
+pub fn levels(a: &mut [i32], first: usize, end: usize)
+    requires { ⌜ Begun first (now a) × End first end (now a) ⌝ }
+    ensures { λ _. ⌜ ((m : ℕ) (x : List ℤ) → Blockwise first m x (now (a .entry)) → Blockwise end m x (now (a .exit))) ⌝ }
 {
     let mut h = first;
-    while h < a.len() {
+    while h < end {
         level(a, h);
         h = h + h;
     }
 }
 
-// The levels from the blocks of 4 on, two at a time. Each call has a literal, which the compiler unrolls.
-fn levels_by_two(a: &mut [i32])
-    requires { ⌜ Begun 4 (now a) ⌝ }
-    ensures { λ _. ⌜ ((m : ℕ) (x : List ℤ) → Blockwise 4 m x (now (a .entry)) → now (a .exit) ≡ tabulate (2 ^ m) (correlation m (at x))) ⌝ }
+// The levels from the blocks of 4 to those of `end`, two at a time. Each call has a literal, which the compiler unrolls.
+fn levels_by_two(a: &mut [i32], end: usize)
+    requires { ⌜ Begun 4 (now a) × End 4 end (now a) ⌝ }
+    ensures { λ _. ⌜ ((m : ℕ) (x : List ℤ) → Blockwise 4 m x (now (a .entry)) → Blockwise end m x (now (a .exit))) ⌝ }
 {
-    let n = a.len();
-    if n < 16 {
-        levels(a, 4);
+    if end < 16 {
+        levels(a, 4, end);
         return;
     }
     two_levels(a, 4);
-    if n < 64 {
-        levels(a, 16);
+    if end < 64 {
+        levels(a, 16, end);
         return;
     }
     two_levels(a, 16);
-    if n < 256 {
-        levels(a, 64);
+    if end < 256 {
+        levels(a, 64, end);
         return;
     }
     two_levels(a, 64);
-    levels(a, 256);
+    levels(a, 256, end);
 }
 
 // The correlation of every mask with the values in a, in place: blocks of 4 first, then two levels at a time.
@@ -115,16 +128,28 @@ pub fn correlate(a: &mut [i32], m: usize)
         return;
     }
     fours(a);
-    levels_by_two(a);
+    let n = a.len();
+    levels_by_two(a, n);
 }
 
-// The correlations of each half with its own values, in place: the transform of the whole without its last level.
+// The correlations of each half with its own values, in place: the transform of the whole without its last level. Small halves are straight
+// code.
 pub fn correlate_halves(a: &mut [i32], k: usize)
-    requires { ⌜ Halved k (now a) ⌝ }
+    requires { ⌜ Summable (suc k) (now a) ⌝ }
     ensures { λ _. ⌜ HalvesDone k (now (a .entry)) (now (a .exit)) ⌝ }
 {
-    let n = a.len();
-    let h = n / 2;
-    correlate(&mut a[0..h], k);
-    correlate(&mut a[h..n], k);
+    let h = a.len() / 2;
+    if k == 0 {
+        return;
+    }
+    if k == 1 {
+        level(a, 1);
+        return;
+    }
+    if k == 3 {
+        eights(a);
+        return;
+    }
+    fours(a);
+    levels_by_two(a, h);
 }

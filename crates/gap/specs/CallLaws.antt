@@ -12,9 +12,10 @@ use lib.ListN.{length, List·getD-eq-default}
 use lib.Pow.{pow-mono, pow-pos}
 use borrow.Author.Tests.{eq-eqb, eqb-true, leb-true, ne-eqb}
 use Rattle.area.specs.Area.{at}
-use Rattle.correlations.specs.Halves.{Halved, HalvesDone}
+use Rattle.correlations.specs.Halves.{HalvesDone}
 use Rattle.hadamard.specs.Correlation.{correlation, sign, values}
 use Rattle.hadamard.specs.CorrelationLaws.{correlation-ext, sign-size}
+use Rattle.hadamard.specs.Summable.{Summable}
 use Rattle.peaks.specs.Joined.{joined-whole}
 use Rattle.peaks.specs.Packing.{correlation-size}
 use Rattle.peaks.specs.Peaks.{pairsJoined}
@@ -120,8 +121,11 @@ module _ {m : ℕ} {word : List ℕ} {part xs : List ℤ} (h : Fits m word part)
   signs-long : length xs ≡ 2 ^ m
   signs-long = w .long ∙ h .room
 
-  sign-small : (p : ℕ) → p < 2 ^ m → natAbs (at xs p) ≤ 1
-  sign-small p l = omega (arith, ap natAbs (sign-at p l), sign-size (bit word p))
+  sign-small : (p : ℕ) → natAbs (at xs p) ≤ 1
+  sign-small p = elim (decLt p (2 ^ m)) [
+    | yes l ↦ omega (arith, ap natAbs (sign-at p l), sign-size (bit word p))
+    | no a ↦ omega (arith, ap natAbs (List·getD-eq-default xs (pos 0) {n = p} (omega (arith, signs-long))))
+  ]
 
   -- the exponent of a half
   abbrev k : ℕ
@@ -136,10 +140,10 @@ module _ {m : ℕ} {word : List ℕ} {part xs : List ℤ} (h : Fits m word part)
   half-few : 2 ^ k ≤ 512
   half-few = omega (arith, doubled, pow-mono {j = 10} (h .most))
 
-  pub signs-halved : Halved k xs
-  signs-halved = record {
-    size = signs-long ∙ sym doubled;
-    small = λ p l. omega (arith, mul-le-mul (sign-small p (omega (arith, doubled))) half-few);
+  pub signs-summable : Summable (suc k) xs
+  signs-summable = rw whole record {
+    size = signs-long;
+    small = λ p. omega (arith, mul-le-mul (sign-small p) (pow-mono {j = 10} (h .most)));
   }
 
   -- then ys, the correlations of each half
@@ -171,7 +175,7 @@ module _ {m : ℕ} {word : List ℕ} {part xs : List ℤ} (h : Fits m word part)
           omega (
             arith,
             ap natAbs (d .first i (omega (arith, en))),
-            correlation-size k (at xs) i (λ p b. sign-small p (omega (arith, doubled))),
+            correlation-size k (at xs) i (λ p b. sign-small p),
             half-few,
           )
       | no a ↦ elim (decLt i (n + n)) [
@@ -181,7 +185,7 @@ module _ {m : ℕ} {word : List ℕ} {part xs : List ℤ} (h : Fits m word part)
               arith,
               ap (λ (b : ℕ). natAbs (at ys b)) back,
               ap natAbs (second-at (i - n) (omega arith)),
-              correlation-size k high (i - n) (λ p b. sign-small (2 ^ k + p) (omega (arith, doubled))),
+              correlation-size k high (i - n) (λ p b. sign-small (2 ^ k + p)),
               half-few,
             )
         | no b ↦ omega (arith, ap natAbs (List·getD-eq-default ys (pos 0) {n = i} (omega (arith, long))))

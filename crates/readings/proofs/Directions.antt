@@ -7,7 +7,6 @@ use mathlib.Core.Bool.{true}
 use mathlib.Core.List.{List}
 use lib.ListN.{length, take, drop, replicate, length-replicate, getD-replicate}
 use lib.IntN.{ℤ, pos, natAbs, _+ℤ_, pos-+ℤ-pos}
-use lib.Pow.{pow-mono}
 use borrow.Author.Tests.{le-ltb, lt-ltb}
 use borrow.Rule.Slice.PartMut.{putMid}
 use Rattle.words.specs.Parts.{part-length, part-at, back-length, back-below, back-within}
@@ -17,9 +16,8 @@ use Rattle.words.specs.Word.{bit, IsWord}
 use Rattle.words.specs.Written.{Written}
 use Rattle.area.specs.Area.{at, IsBit, Bits, Front, SameFront, wordOf}
 use Rattle.area.specs.AreaLaws.{bits-at, is-bit, front-bits, front-word, front-of, front-kept}
-use Rattle.direction.specs.Cosets.{coset-lt}
 use Rattle.direction.specs.Direction.{project, cosetOf}
-use Rattle.direction.specs.Insert.{highest-top}
+use Rattle.direction.specs.Members.{number-lt}
 use Rattle.direction.specs.Projected.{word-project}
 use Rattle.cosets.specs.Votes.{Projects, Tally, castVote}
 use Rattle.rule.specs.Reading.{Outcome, abstained, abstains, leavesOf, reading, roundLeaves, vote, votes}
@@ -279,8 +277,7 @@ module _ {f : Round} {ys zs us : List ℤ} {i used absent a : ℕ} {told : Told}
       (λ why k l h. tt) answer o numbered said holds
 
   coset-here : (p : ℕ) → p < 2 ^ suc m → cosetOf (suc i) p < 2 ^ m
-  coset-here p h =
-      coset-lt (suc i) (highest-top (suc i) (omega arith) (omega (arith, pow-mono {i = suc m} {j = 10} (omega arith)))) p m (omega arith) h
+  coset-here p h = number-lt {b = suc i} (record { small = stage .small; some = omega arith; under = omega arith }) p h
 
   -- the vote, where the reading gave a word
   cast-is : (p : ℕ) (h : p < 2 ^ suc m)

@@ -1,22 +1,24 @@
 -- Values that are a codeword already, as the code tests them. Assumes nothing.
-use Prim.Native.Nat.{ℕ, _+_, _%_, _^_, _≤_, _<_}
+use Prim.Native.Nat.{ℕ, zero, suc, _+_, _%_, _^_, _≤_, _<_}
 use mathlib.Core.Path.{_≡_, refl, sym, ap, ap₂, _∙_}
-use mathlib.Core.Bool.{true, false}
+use mathlib.Core.Bool.{Bool, true, false, _&&_}
 use mathlib.Core.List.{List}
 use native.Mathlib.Omega.{arith}
 use lib.Bits.{bitXor}
+use lib.Dec.{eqb}
 use lib.ListN.{length}
 use lib.IntN.{ℤ, pos, natAbs}
 use mir.Syntax.{w32}
 use mir.Val.{ofZ}
 use borrow.Author.Tests.{eqb-false, not-true}
-use Rattle.words.specs.Sum.{allBelow}
-use Rattle.words.specs.SumLaws.{all-true, both-true}
+use Rattle.words.specs.Sum.{allBelow, total}
+use Rattle.words.specs.SumLaws.{all-append, all-more, all-true, both-true}
 use Rattle.area.specs.Area.{at}
 use Rattle.area.specs.AreaLaws.{bit-stored, is-bit, xor-stored}
 use Rattle.area.specs.Numbers.{stored, stored-eq}
 use Rattle.code.specs.Code.{codewordTest}
 use Rattle.code.specs.Codewords.{codeword-of-test}
+use Rattle.code.specs.FirstOrder.{levels-test, levelsTest, repeats, repeatsBelow}
 use Rattle.hadamard.specs.Correlation.{constantOf}
 use Rattle.hadamard.specs.CorrelationLaws.{constantOf-lt}
 use Rattle.rule.specs.Reading.{accepted, order1}
@@ -29,14 +31,59 @@ use Rattle.value_orders.specs.Leaves.{Leaf, cleanTest, isSome, signAt}
 
 -- ---- as the code tests it
 
-module _ (m : ℕ) (xs : List ℤ) where
-  pub clean-not : codewordTest m 1 (signsOf m xs) ≡ false → cleanTest m xs ≡ false
-  unfolding cleanTest
-  clean-not e = rw e refl
+and-chain : (s a b c : Bool) → ((s && a) && b) && c ≡ s && (a && (b && c))
+and-chain true true b c = refl
+and-chain true false b c = refl
+and-chain false a b c = refl
 
-  pub clean-is : codewordTest m 1 (signsOf m xs) ≡ true → cleanTest m xs ≡ allBelow (2 ^ m) (isSome xs)
+and-swap : (a b c d : Bool) → (a && b) && (c && d) ≡ (a && c) && (b && d)
+and-swap true true c d = refl
+and-swap true false true d = refl
+and-swap true false false d = refl
+and-swap false b c d = refl
+
+all-both : (n : ℕ) (f g : ℕ → Bool) → allBelow n (λ i. f i && g i) ≡ allBelow n f && allBelow n g
+unfolding total
+all-both zero f g = refl
+all-both (suc n) f g = ap (λ (b : Bool). b && (f n && g n)) (all-both n f g) ∙ and-swap (allBelow n f) (allBelow n g) (f n) (g n)
+
+module _ (xs : List ℤ) (h : ℕ) where
+  -- place i of the last level: its sign and its partner's are added, and neither of the two values is 0
+  abbrev pub lastAt : ℕ → Bool
+  lastAt i = eqb ((signAt xs i + signAt xs (h + i)) % 2) ((signAt xs 0 + signAt xs h) % 2) && (isSome xs i && isSome xs (h + i))
+
+  pub last-more : (i : ℕ) (s a b c : Bool) → s ≡ allBelow i lastAt → a ≡ eqb ((signAt xs i + signAt xs (h + i)) % 2) ((signAt xs 0 + signAt xs h) % 2)
+      → b ≡ isSome xs i → c ≡ isSome xs (h + i) → ((s && a) && b) && c ≡ allBelow (i + 1) lastAt
+  last-more i s a b c es ea eb ec = and-chain s a b c ∙ ap (λ (z : Bool). s && z) (ap₂ _&&_ ea (ap₂ _&&_ eb ec)) ∙ all-more i lastAt s es
+
+  pub last-all : allBelow h lastAt ≡ repeats (signAt xs) h && allBelow (h + h) (isSome xs)
+  unfolding repeats
+  last-all =
+      all-both h _ _
+      ∙ ap (λ (z : Bool). repeatsBelow (signAt xs) h h && z)
+      (all-both h (isSome xs) (λ i. isSome xs (h + i)) ∙ sym (all-append h h (isSome xs)))
+
+module _ (m : ℕ) (xs : List ℤ) where
+  pub clean-test : levelsTest m (signAt xs) && allBelow (2 ^ m) (isSome xs) ≡ cleanTest m xs
   unfolding cleanTest
-  clean-is e = rw e refl
+  clean-test =
+      ap (λ (z : Bool). z && allBelow (2 ^ m) (isSome xs))
+      (levels-test m (signsOf m xs) (signAt xs) (signs-word m xs) (λ p l. sym (bit-signs m xs p l)))
+
+  pub clean-not : levelsTest m (signAt xs) ≡ false → false ≡ cleanTest m xs
+  clean-not e = rw (← clean-test, e) refl
+
+  pub clean-is : levelsTest m (signAt xs) ≡ true → allBelow (2 ^ m) (isSome xs) ≡ cleanTest m xs
+  clean-is e = rw (← clean-test, e) refl
+
+  -- the last level and the values, where the levels below pass
+  pub clean-last : (k h : ℕ) → m ≡ suc k → h ≡ 2 ^ k → levelsTest k (signAt xs) ≡ true
+      → repeats (signAt xs) h && allBelow (h + h) (isSome xs) ≡ cleanTest m xs
+  unfolding levelsTest
+  clean-last k h em eh e =
+      let double : h + h ≡ 2 ^ m = omega (arith, ap (λ (i : ℕ). 2 ^ i) em) in
+      let last : repeats (signAt xs) h ≡ levelsTest m (signAt xs) = rw (em, eh, e) refl in
+      ap₂ _&&_ last (ap (λ (n : ℕ). allBelow n (isSome xs)) double) ∙ clean-test
 
 -- values that fill their list
 module _ (m : ℕ) (xs : List ℤ) (some-places : 1 ≤ m) (few : m ≤ 10) (size : length xs ≡ 2 ^ m) (e : cleanTest m xs ≡ true) where

@@ -35,6 +35,11 @@ pub record LeafBits (n : ℕ) (o : Outcome) (ys : List ℤ) (b : Bool) : Type 0 
   pub said : b ≡ isAccepted o
   pub word : Holds n o ys
 
+-- by its bits, or by its signs
+abbrev pub LeafAs : Bool → ℕ → Outcome → List ℤ → Bool → Type 0
+LeafAs true = LeafBits
+LeafAs false = Leaf
+
 -- the place that an outcome names, p being the lowest of value 0: of a reading's refusals only 17 names one
 abbrev pub placeIn : Outcome → ℕ → ℕ
 placeIn o p = cond (eqb (refusalOf o) 17) p 0

@@ -147,12 +147,6 @@ module _ (m : ℕ) (v : ℕ → ℤ) where
       })
       (λ g. absurd (false≢true (sym (g .said)))) f
 
-  -- a tie leaves no word
-  pub bits-none : {ys zs : List ℤ} → Leaf (2 ^ m) (order1 m v) ys false → LeafBits (2 ^ m) (order1 m v) zs false
-  bits-none {ys} {zs} f =
-      by-order1 (λ (o : Outcome). Leaf (2 ^ m) o ys false → LeafBits (2 ^ m) o zs false)
-      (λ u t g. absurd (false≢true (g .said))) (λ g. record { said = refl; word = tt }) f
-
   pub first-tie : {ys zs : List ℤ} → LeafBits (2 ^ m) (order1 m v) ys false → Read (2 ^ m) (order1 m v) zs (Refused Tie 0 1)
   first-tie {ys} {zs} f =
       by-order1 (λ (o : Outcome). LeafBits (2 ^ m) o ys false → Read (2 ^ m) o zs (Refused Tie 0 1))

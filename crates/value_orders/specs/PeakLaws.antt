@@ -10,9 +10,10 @@ use lib.ListN.{length, drop, List·getD-eq-default}
 use lib.Pow.{pow-mono, pow-pos}
 use lib.Seq.{getD-drop}
 use Rattle.area.specs.Area.{at}
-use Rattle.correlations.specs.Halves.{Halved, HalvesDone}
+use Rattle.correlations.specs.Halves.{HalvesDone}
 use Rattle.hadamard.specs.Correlation.{correlation}
 use Rattle.hadamard.specs.CorrelationLaws.{correlation-ext}
+use Rattle.hadamard.specs.Summable.{Summable}
 use Rattle.peaks.specs.declared.Peak.{Peak}
 use Rattle.peaks.specs.Peaks.{IsPeak, Pairs, pairsJoined}
 use Rattle.peaks.specs.Joined.{joined-whole}
@@ -36,11 +37,10 @@ module _ {k h : ℕ} {xs : List ℤ} (a : Halves k h xs) where
     ];
   }
 
-  pub values-halved : Halved k xs
-  values-halved = record {
-    size = omega (arith, a .size, a .half);
-    small = λ p l. omega (arith, mul-le-mul (in-range .small p) (pow-mono {i = k} {j = 9} (a .few)));
-  }
+  pub values-summable : Summable (suc k) xs
+  values-summable =
+      let few : suc k ≤ 10 = omega (arith, a .few) in
+      record { size = omega (arith, a .size, a .half); small = λ p. omega (arith, mul-le-mul (in-range .small p) (pow-mono few)) }
 
   -- the values of the second half
   abbrev high : List ℤ

@@ -1,7 +1,7 @@
 -- Words by the signs of numbers. Assumes nothing.
 use Prim.Native.Nat.{ℕ, _+_, _%_, _^_, _<_}
 use mathlib.Core.Path.{_≡_, refl, sym, ap, _∙_}
-use mathlib.Core.Bool.{true, false}
+use mathlib.Core.Bool.{Bool, true, false}
 use mathlib.Core.List.{List}
 use native.Mathlib.Nat.{mod-lt}
 use native.Mathlib.Omega.{arith}
@@ -18,14 +18,14 @@ use Rattle.area.specs.Area.{at, IsBit, zero-bit, one-bit}
 use Rattle.area.specs.AreaLaws.{bit-back, bit-lt, is-bit}
 use Rattle.area.specs.Numbers.{negated-fits, stored}
 use Rattle.hadamard.specs.Correlation.{constantOf, correlation}
-use Rattle.hadamard.specs.AffineWords.{bit-affine}
+use Rattle.hadamard.specs.AffineWords.{bit-affine, word-affine}
 use Rattle.hadamard.specs.CorrelationLaws.{constantOf-negative, constantOf-other}
 use Rattle.peaks.specs.declared.Peak.{Peak}
 use Rattle.peaks.specs.Peaks.{IsPeak}
 use Rattle.peaks.specs.Stored.{as-it-is, zero-read}
 use Rattle.rule.specs.Reading.{order1}
 use Rattle.order_one.specs.OrderOne.{peak-tie, peak-nearest, peak-bit}
-use Rattle.value_orders.specs.Leaves.{Leaf}
+use Rattle.value_orders.specs.Leaves.{Leaf, LeafAs, LeafBits}
 
 -- ---- a bit, and the number with its sign
 
@@ -61,26 +61,38 @@ module _ (z : ℤ) (fits : mag z < 2 ^ 31) where
 -- ---- order 1 from the peak p of the values v
 
 module _ (m : ℕ) (v : ℕ → ℤ) {p : Peak} (k : IsPeak (2 ^ m) (correlation m v) p) where
-  pub leaf-tie : {ys : List ℤ} → p .alone ≡ false → Leaf (2 ^ m) (order1 m v) ys false
-  leaf-tie e = rw (peak-tie m v k e) (record { said = refl; word = tt })
+  pub leaf-tie : (bits : Bool) (ys : List ℤ) → p .alone ≡ false → LeafAs bits (2 ^ m) (order1 m v) ys false
+  leaf-tie true ys e = rw (peak-tie m v k e) (record { said = refl; word = tt })
+  leaf-tie false ys e = rw (peak-tie m v k e) (record { said = refl; word = tt })
 
-  -- its codeword was written as ys
-  module _ (e : p .alone ≡ true) {n : ℕ} {ys : List ℤ} (size : n ≡ 2 ^ m)
-      (ey : ys ≡ tabulate n (λ q. negℤ (pos ((natAbs (stored (p .constant)) + ones (bitAnd (p .mask) q)) % 2)))) where
+  module _ (e : p .alone ≡ true) where
     constant-is : natAbs (stored (p .constant)) ≡ constantOf (correlation m v (p .mask))
     constant-is = ap natAbs (bit-back (peak-bit m v k e) ∙ k .constant e)
 
-    each : (q : ℕ) → q < 2 ^ m → at ys q ≡ negℤ (pos ((constantOf (correlation m v (p .mask)) + ones (bitAnd (p .mask) q)) % 2))
-    each q l = rw (ey, ← constant-is) (getD-tabulate n _ (pos 0) q (omega arith))
+    -- its codeword was written as ys, a number f of each bit
+    module _ {n : ℕ} {ys : List ℤ} (f : ℕ → ℤ) (size : n ≡ 2 ^ m)
+        (ey : ys ≡ tabulate n (λ q. f ((natAbs (stored (p .constant)) + ones (bitAnd (p .mask) q)) % 2))) where
+      each : (q : ℕ) → q < 2 ^ m → at ys q ≡ f ((constantOf (correlation m v (p .mask)) + ones (bitAnd (p .mask) q)) % 2)
+      each q l = rw (ey, ← constant-is) (getD-tabulate n _ (pos 0) q (omega arith))
 
-    pub leaf-word : Leaf (2 ^ m) (order1 m v) ys true
-    leaf-word =
-        rw (peak-nearest m v k e)
-        (record {
-          said = refl;
-          word = record {
-            each = λ q l.
-                ap (λ (i : ℕ). constantOf (at ys i)) {x = 0 + q} {y = q} (omega arith) ∙ ap constantOf (each q l)
-                ∙ sign-of _ (mod-lt _ (omega arith)) ∙ sym (bit-affine m (p .mask) _ q l);
-          };
-        })
+    module _ {n : ℕ} {ys : List ℤ} (size : n ≡ 2 ^ m) where
+      pub bits-word : ys ≡ tabulate n (λ q. pos ((natAbs (stored (p .constant)) + ones (bitAnd (p .mask) q)) % 2)) → LeafBits (2 ^ m) (order1 m v) ys true
+      bits-word ey =
+          let w = word-affine m (p .mask) (constantOf (correlation m v (p .mask))) in
+          rw (peak-nearest m v k e)
+          (record {
+            said = refl;
+            word = record { size = w .size; each = λ q l. each pos size ey q l ∙ ap pos (sym (bit-affine m (p .mask) _ q l)); bits = λ q l. w .bits q };
+          })
+
+      pub leaf-word : ys ≡ tabulate n (λ q. negℤ (pos ((natAbs (stored (p .constant)) + ones (bitAnd (p .mask) q)) % 2))) → Leaf (2 ^ m) (order1 m v) ys true
+      leaf-word ey =
+          rw (peak-nearest m v k e)
+          (record {
+            said = refl;
+            word = record {
+              each = λ q l.
+                  ap (λ (i : ℕ). constantOf (at ys i)) {x = 0 + q} {y = q} (omega arith) ∙ ap constantOf (each (λ b. negℤ (pos b)) size ey q l)
+                  ∙ sign-of _ (mod-lt _ (omega arith)) ∙ sym (bit-affine m (p .mask) _ q l);
+            };
+          })

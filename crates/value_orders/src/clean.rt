@@ -1,16 +1,14 @@
 // Whether values are a codeword of order 1 already: none is 0, and the signs are one, level by level. Each half of the signs goes on as the one
 // below it, or as its complement.
-ghost use mathlib.Core.Bool.{true};
+ghost use mathlib.Core.Bool.{true, _&&_};
 ghost use mathlib.Core.Path.{_≡_};
 ghost use Prim.Native.Nat.{_+_, _^_, _≤_, _<_};
 ghost use lib.ListN.{length};
 ghost use lib.IntN.{pos};
 ghost use Rattle.words.specs.Sum.{allBelow};
-ghost use Rattle.code.specs.Code.{codewordTest};
 ghost use Rattle.code.specs.FirstOrder.{levelsTest};
 ghost use Rattle.code.specs.FirstOrder;
 ghost use Rattle.hadamard.specs.Correlation.{constantOf};
-ghost use Rattle.confidences.specs.Confidences.{signsOf};
 ghost use Rattle.confidences.specs.Values.{Values};
 ghost use Rattle.value_orders.specs.Leaves.{signAt, isSome, cleanTest};
 
@@ -58,20 +56,6 @@ fn levels_from(first: usize, m: usize, part: &[i32]) -> bool
     true
 }
 
-// Whether the signs are a first order codeword.
-fn is_affine(m: usize, part: &[i32]) -> bool
-    requires { ⌜ (m ≤ 10) × Values (2 ^ m) (now part) ⌝ }
-    ensures { λ b. ⌜ b ≡ codewordTest m 1 (signsOf m (now (part .entry))) ⌝ }
-{
-    if m < 3 {
-        return levels_from(0, m, part);
-    }
-    if !first_levels(part) {
-        return false;
-    }
-    levels_from(3, m, part)
-}
-
 // Whether none of the first n values is 0.
 fn none_zero(n: usize, part: &[i32]) -> bool
     requires { ⌜ Values n (now part) ⌝ }
@@ -84,13 +68,40 @@ fn none_zero(n: usize, part: &[i32]) -> bool
     some
 }
 
+// The last level of 2h signs, and whether no value is 0, in one pass.
+fn last_level(h: usize, part: &[i32]) -> bool
+    requires { ⌜ (0 < h) × Values (h + h) (now part) ⌝ }
+    ensures { λ b. ⌜ b ≡ Rattle.code.specs.FirstOrder.repeats (signAt (now (part .entry))) h && allBelow (h + h) (isSome (now (part .entry))) ⌝ }
+{
+    let t = sign_of(part[0]) ^ sign_of(part[h]);
+    let mut same = true;
+    for i in 0..h {
+        let x = part[i];
+        let y = part[h + i];
+        same = same & (sign_of(x) ^ sign_of(y) == t) & (x != 0) & (y != 0);
+    }
+    same
+}
+
 // Whether the values are a codeword already.
 pub fn is_clean(m: usize, part: &[i32]) -> bool
     requires { ⌜ (m ≤ 10) × Values (2 ^ m) (now part) ⌝ }
     ensures { λ b. ⌜ b ≡ cleanTest m (now (part .entry)) ⌝ }
 {
-    if !is_affine(m, part) {
+    if m < 3 {
+        if !levels_from(0, m, part) {
+            return false;
+        }
+        return none_zero(words::size(m), part);
+    }
+    if !first_levels(part) {
         return false;
     }
-    none_zero(words::size(m), part)
+    if m == 3 {
+        return none_zero(8, part);
+    }
+    if !levels_from(3, m - 1, part) {
+        return false;
+    }
+    last_level(words::size(m - 1), part)
 }

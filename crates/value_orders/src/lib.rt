@@ -9,7 +9,7 @@ ghost use Rattle.peaks.specs.Peaks.{IsPeak};
 ghost use Rattle.rule.specs.Reading.{order0, order1};
 ghost use Rattle.told.specs.Told.{Read};
 ghost use Rattle.confidences.specs.Values.{Values, frontOf};
-ghost use Rattle.value_orders.specs.Leaves.{Leaf, LeafBits};
+ghost use Rattle.value_orders.specs.Leaves.{LeafAs};
 use clean::is_clean;
 use peaks::Peak;
 use signs::to_bits;
@@ -32,10 +32,10 @@ fn find_peak(m: usize, part: &mut [i32]) -> Peak
     pairs::search(h, part)
 }
 
-// The reading at order 1 by the peak of the values in the part, which leaves its word by its signs; whether there is one.
-fn read_peak(m: usize, part: &mut [i32]) -> bool
+// The reading at order 1 by the peak of the values in the part, which leaves its word by its bits or by its signs; whether there is one.
+fn read_peak(m: usize, bits: bool, part: &mut [i32]) -> bool
     requires { ⌜ (1 ≤ m) × (m ≤ 10) × (length (now part) ≡ 2 ^ m) × Values (2 ^ m) (now part) ⌝ }
-    ensures { λ b. ⌜ Leaf (2 ^ m) (order1 m (at (now (part .entry)))) (now (part .exit)) b ⌝ }
+    ensures { λ b. ⌜ LeafAs bits (2 ^ m) (order1 m (at (now (part .entry)))) (now (part .exit)) b ⌝ }
 {
     let peak = find_peak(m, part);
     if !peak.alone {
@@ -43,31 +43,26 @@ fn read_peak(m: usize, part: &mut [i32]) -> bool
     }
     let mask = peak.mask;
     let constant = peak.constant;
+    if bits {
+        affine::write_affine(part, mask, constant);
+        return true;
+    }
     write_signs(part, mask, constant);
     true
 }
 
-// The reading at order 1 of the values in the part, which leaves its word by the signs of the numbers; whether there is one. Values that are
-// a codeword already stay as they are, and need no correlations.
-pub fn read_signs(m: usize, part: &mut [i32]) -> bool
+// The reading at order 1 of the values in the part, which leaves its word by its bits, or by the signs of the numbers; whether there is one.
+// Values that are a codeword already need no correlations.
+pub fn read_word(m: usize, bits: bool, part: &mut [i32]) -> bool
     requires { ⌜ (1 ≤ m) × (m ≤ 10) × (length (now part) ≡ 2 ^ m) × Values (2 ^ m) (now part) ⌝ }
-    ensures { λ b. ⌜ Leaf (2 ^ m) (order1 m (at (now (part .entry)))) (now (part .exit)) b ⌝ }
+    ensures { λ b. ⌜ LeafAs bits (2 ^ m) (order1 m (at (now (part .entry)))) (now (part .exit)) b ⌝ }
 {
-    if is_clean(m, part) {
-        return true;
+    if !is_clean(m, part) {
+        return read_peak(m, bits, part);
     }
-    read_peak(m, part)
-}
-
-// The same, which leaves the bits of the word.
-fn read_bits(m: usize, part: &mut [i32]) -> bool
-    requires { ⌜ (1 ≤ m) × (m ≤ 10) × (length (now part) ≡ 2 ^ m) × Values (2 ^ m) (now part) ⌝ }
-    ensures { λ b. ⌜ LeafBits (2 ^ m) (order1 m (at (now (part .entry)))) (now (part .exit)) b ⌝ }
-{
-    if !read_signs(m, part) {
-        return false;
+    if bits {
+        to_bits(part.len(), part);
     }
-    to_bits(part.len(), part);
     true
 }
 
@@ -107,7 +102,7 @@ pub fn first_order(m: usize, area: &mut [i32]) -> Verdict
     ensures { λ a. ⌜ Read (2 ^ m) (order1 m (at (frontOf (2 ^ m) (now (area .entry))))) (now (area .exit)) a ⌝ }
 {
     let n = words::size(m);
-    if !read_bits(m, &mut area[0..n]) {
+    if !read_word(m, true, &mut area[0..n]) {
         return Verdict::Refused(Noise::Tie, 0, 1);
     }
     Verdict::Accepted(0, 1)

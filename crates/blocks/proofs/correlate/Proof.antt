@@ -1,8 +1,9 @@
 -- `blocks::correlate` meets its contract: the quads, each eight of them transformed, then the levels after. Assumes nothing.
 use Prim.Native.Nat.{_-_}
+use native.Mathlib.Omega.{arith}
 use lib.ListN.{take}
 use borrow.Author.Needs.{needs}
-use Rattle.correlations.specs.Begun.{Blockwise}
+use Rattle.correlations.specs.Begun.{Blockwise, blockwise-all, blockwise-length, end-at}
 use Rattle.blocks.specs.Blocks.{quadsOf}
 use Rattle.blocks.proofs.Loads.{eights-done, correlated}
 use Rattle.blocks.proofs.correlate.Statement.{statement}
@@ -31,7 +32,11 @@ eights c =
     eights-done _ _ (b .some) (b .few) (c .before .before .load .ensures) (c .size .ensures)
 
 levels-requires : tie.Need-levels-requires
-levels-requires c κs = record { exponent = _; from = _; done = eights (c .before) }
+levels-requires c κs =
+    let d = c .before in
+    let e = d .size .ensures in
+    let b = d .before .before .before .before .before .pre in
+    (record { exponent = _; from = _; done = eights d }, end-at 3 _ e (b .some) (omega (arith, e, blockwise-length (eights d))))
 
 same-length : tie.Need-same-length
 same-length c = search needs
@@ -39,8 +44,10 @@ same-length c = search needs
 returns : tie.Need-returns
 returns c =
     let d = c .before .before .before in
+    let e = d .size .ensures in
     let b = d .before .before .before .before .before .pre in
-    correlated _ _ (b .some) (b .few) (d .before .before .load .ensures) (d .size .ensures) (c .before .levels .ensures _ _ (eights d))
+    let w = c .before .levels .ensures _ _ (eights d) in
+    correlated _ _ (b .some) (b .few) (d .before .before .load .ensures) e (blockwise-all w (omega (arith, e, blockwise-length w)))
 
 pub correlate-spec : {M : Type 1} → statement M
 correlate-spec =

@@ -5,7 +5,7 @@ use native.Mathlib.Omega.{arith}
 use Rattle.words.specs.Butterflies.{Entries}
 use Rattle.words.specs.ButterflyLaws.{halved-zero, halved-at}
 use Rattle.words.specs.Levels.{whole-blocks, transformed-blocks}
-use Rattle.correlations.specs.Begun.{Blockwise}
+use Rattle.correlations.specs.Begun.{Blockwise, blockwise-all, end-at}
 use Rattle.hadamard.specs.Transform.{sums, summable-entries, halved-correlation}
 use Rattle.correlations.proofs.correlate.Statement.{statement}
 use Rattle.correlations.proofs.correlate.Tie as tie
@@ -52,13 +52,16 @@ fours-requires : tie.Need-fours-requires
 fours-requires c κs = whole-blocks sums (entries (c .before .before .before .before)) 2 2 (omega arith) (omega arith)
 
 levels-by-two-requires : tie.Need-levels-by-two-requires
-levels-by-two-requires c κs = record { exponent = _; from = _; done = fours-done (c .before .before) }
+levels-by-two-requires c κs =
+    let f = c .before .before in
+    let s = f .before .before .before .before .before in
+    (record { exponent = _; from = _; done = fours-done f }, end-at 2 _ (f .fours .kept .0 ∙ s .pre .size) (omega arith) (omega arith))
 
 same-length-3 : tie.Need-same-length-3
 same-length-3 c = c .before .levels-by-two .kept .0 ∙ c .before .before .before .before .fours .kept .0
 
 returns-4 : tie.Need-returns-4
-returns-4 c = c .before .levels-by-two .ensures _ _ (fours-done (c .before .before .before .before))
+returns-4 c = blockwise-all (c .before .levels-by-two .ensures _ _ (fours-done (c .before .before .before .before))) (omega arith)
 
 pub correlate-spec : {M : Type 1} → statement M
 correlate-spec =

@@ -1,5 +1,4 @@
 -- `correlations::eight` meets its contract: the transform of two halves, joined. Assumes nothing.
-use native.Mathlib.Omega.{arith}
 use mathlib.Core.Path.{refl}
 use borrow.Author.Needs.{needs}
 use Rattle.words.specs.Levels.{first-lent, second-lent, halves-ready, halves-joined}

@@ -2,7 +2,7 @@
 use mathlib.Core.Path.{sym, _∙_}
 use native.Mathlib.Omega.{arith}
 use borrow.Author.Needs.{needs}
-use Rattle.gap.specs.CallLaws.{gap-is, halves-small, signs-halved}
+use Rattle.gap.specs.CallLaws.{gap-is, halves-small, signs-summable}
 use Rattle.gap.specs.GapLaws.{gap-codeword}
 use Rattle.gap.proofs.measure.Statement.{statement}
 use Rattle.gap.proofs.measure.Tie as tie
@@ -24,7 +24,7 @@ sub-correlate-halves c = c .before .before .before .before .before .before .befo
 correlate-halves-requires : tie.Need-correlate-halves-requires
 correlate-halves-requires c κs =
     let s = c .before .before in
-    signs-halved (s .before .before .before .before .before .pre) (s .signs .ensures)
+    signs-summable (s .before .before .before .before .before .pre) (s .signs .ensures)
 
 widest-requires : tie.Need-widest-requires
 widest-requires c κs =

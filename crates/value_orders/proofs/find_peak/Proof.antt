@@ -7,7 +7,7 @@ use borrow.Author.Needs.{needs}
 use Rattle.area.specs.Area.{at}
 use Rattle.hadamard.specs.Correlation.{correlation}
 use Rattle.peaks.specs.Peaks.{IsPeak}
-use Rattle.value_orders.specs.PeakLaws.{Halves, values-halved, back-pairs, back-peak}
+use Rattle.value_orders.specs.PeakLaws.{Halves, values-summable, back-pairs, back-peak}
 use Rattle.value_orders.proofs.find_peak.Statement.{statement}
 use Rattle.value_orders.proofs.find_peak.Tie as tie
 
@@ -35,7 +35,7 @@ sub-correlate-halves : tie.Need-sub-correlate-halves
 sub-correlate-halves c = search needs
 
 correlate-halves-requires : tie.Need-correlate-halves-requires
-correlate-halves-requires c κs = values-halved (halves (c .before))
+correlate-halves-requires c κs = values-summable (halves (c .before))
 
 search-requires : tie.Need-search-requires
 search-requires c κs =

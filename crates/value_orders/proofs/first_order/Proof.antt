@@ -24,28 +24,28 @@ long : (c : tie.After-size) → length (take (c .size .result - 0) (c .before .a
 long c = lent-size {n = 0} (c .before .args .area .now) (omega arith) (room c)
 
 -- what the leaf left
-leaf : (c : tie.After-read-bits) → let a = c .before .before .before .args in
-    LeafBits (2 ^ a .m) (order1 (a .m) (at (frontOf (2 ^ a .m) (a .area .now)))) (c .read-bits .last .1 .0) (c .read-bits .result)
+leaf : (c : tie.After-read-word) → let a = c .before .before .before .args in
+    LeafBits (2 ^ a .m) (order1 (a .m) (at (frontOf (2 ^ a .m) (a .area .now)))) (c .read-word .last .1 .1 .0) (c .read-word .result)
 leaf c =
     let n = c .before .before in
     let a = n .before .args in
-    subst (λ (j : ℕ). LeafBits (2 ^ a .m) (order1 (a .m) (at (take j (a .area .now)))) (c .read-bits .last .1 .0) (c .read-bits .result)) (size-is n)
-    (c .read-bits .ensures)
+    subst (λ (j : ℕ). LeafBits (2 ^ a .m) (order1 (a .m) (at (take j (a .area .now)))) (c .read-word .last .1 .1 .0) (c .read-word .result)) (size-is n)
+    (c .read-word .ensures)
 
 size-requires : tie.Need-size-requires
 size-requires c κs = search needs
 
-sub-read-bits : tie.Need-sub-read-bits
-sub-read-bits c = search needs
+sub-read-word : tie.Need-sub-read-word
+sub-read-word c = search needs
 
-part-read-bits-start : tie.Need-part-read-bits-start
-part-read-bits-start c = search needs
+part-read-word-start : tie.Need-part-read-word-start
+part-read-word-start c = search needs
 
-part-read-bits-end : tie.Need-part-read-bits-end
-part-read-bits-end c = search needs
+part-read-word-end : tie.Need-part-read-word-end
+part-read-word-end c = search needs
 
-read-bits-requires : tie.Need-read-bits-requires
-read-bits-requires c κs =
+read-word-requires : tie.Need-read-word-requires
+read-word-requires c κs =
     let n = c .before in
     let s = n .before in
     (s .pre .0, s .pre .1, long n ∙ size-is n, part-values (s .args .area .now) (size-is n) (s .pre .2))
@@ -68,7 +68,7 @@ returns-2 c =
     let n = f .before .before in
     let a = n .before .args in
     first-word (a .m) _
-    (part-back (a .area .now) (size-is n) (f .read-bits .last .1 .0) (room n) (f .read-bits .kept .1 .0 ∙ long n))
+    (part-back (a .area .now) (size-is n) (f .read-word .last .1 .1 .0) (room n) (f .read-word .kept .1 .1 .0 ∙ long n))
     (subst (LeafBits (2 ^ a .m) _ _) (not-false _ (c .if1 .left)) (leaf f))
 
 pub first-order-spec : {M : Type 1} → statement M
@@ -76,10 +76,10 @@ first-order-spec =
     tie.close
     (tie.spec
     size-requires
-    sub-read-bits
-    part-read-bits-start
-    part-read-bits-end
-    read-bits-requires
+    sub-read-word
+    part-read-word-start
+    part-read-word-end
+    read-word-requires
     same-length
     returns
     same-length-2

@@ -7,7 +7,7 @@ ghost use Rattle.area.specs.Area.{at};
 ghost use Rattle.confidences.specs.Values.{Projects, Sums};
 ghost use Rattle.value_steps.specs.Shares.{wordAt};
 ghost use Rattle.value_readings.specs.Polls.{leaf, LeafAt, Poll, Polled, ReadAt, silence};
-use value_orders::read_signs;
+use value_orders::read_word;
 use value_steps::project;
 use value_steps::share;
 
@@ -17,7 +17,7 @@ pub fn read_part(m: usize, c: usize, area: &mut [i32]) -> bool
     ensures { λ b. ⌜ ReadAt m c (now (area .entry)) (now (area .exit)) b ⌝ }
 {
     let n = words::size(m);
-    read_signs(m, &mut area[c..c + n])
+    read_word(m, false, &mut area[c..c + n])
 }
 
 // Adds what direction b says, where it has a word; how many abstain, 0 or 1.

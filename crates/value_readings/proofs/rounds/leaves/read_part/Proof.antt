@@ -51,23 +51,23 @@ module _ {m c k : ℕ} {xs : List ℤ} (asks : LeafAt m c xs) (e : k ≡ 2 ^ m) 
 size-requires : tie.Need-size-requires
 size-requires c κs = search needs
 
-add-read-signs : tie.Need-add-read-signs
-add-read-signs c = search needs
+add-read-word : tie.Need-add-read-word
+add-read-word c = search needs
 
-mul-read-signs : tie.Need-mul-read-signs
-mul-read-signs c = search needs
+mul-read-word : tie.Need-mul-read-word
+mul-read-word c = search needs
 
-sub-read-signs : tie.Need-sub-read-signs
-sub-read-signs c = search needs
+sub-read-word : tie.Need-sub-read-word
+sub-read-word c = search needs
 
-part-read-signs-start : tie.Need-part-read-signs-start
-part-read-signs-start c = search needs
+part-read-word-start : tie.Need-part-read-word-start
+part-read-word-start c = search needs
 
-part-read-signs-end : tie.Need-part-read-signs-end
-part-read-signs-end c = search needs
+part-read-word-end : tie.Need-part-read-word-end
+part-read-word-end c = search needs
 
-read-signs-requires : tie.Need-read-signs-requires
-read-signs-requires c κs =
+read-word-requires : tie.Need-read-word-requires
+read-word-requires c κs =
     let s = c .before in
     let j = s .before .args .c in
     lends {k = j + s .size .result - j} (s .before .pre) (omega (arith, s .size .ensures))
@@ -80,18 +80,18 @@ returns c =
     let r = c .before in
     let s = r .before .before in
     let j = s .before .args .c in
-    comes-back {k = j + s .size .result - j} (s .before .pre) (omega (arith, s .size .ensures)) (r .read-signs .kept .1 .0) (r .read-signs .ensures)
+    comes-back {k = j + s .size .result - j} (s .before .pre) (omega (arith, s .size .ensures)) (r .read-word .kept .1 .1 .0) (r .read-word .ensures)
 
 pub read-part-spec : {M : Type 1} → statement M
 read-part-spec =
     tie.close
     (tie.spec
     size-requires
-    add-read-signs
-    mul-read-signs
-    sub-read-signs
-    part-read-signs-start
-    part-read-signs-end
-    read-signs-requires
+    add-read-word
+    mul-read-word
+    sub-read-word
+    part-read-word-start
+    part-read-word-end
+    read-word-requires
     same-length
     returns)
