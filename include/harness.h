@@ -31,7 +31,7 @@
  *   8 n       256   512  1024  2048  2048
  *
  * The area may hold anything before a call. It is as it was after refusals 1 to 8, 14, 18 to 24 and 27, and where a street
- * sent no block, and all zero after every other answer.
+ * sent no block, and all zero after every other answer. It may start anywhere that an int32_t may; on 64 bytes it is cleared fastest.
  *
  * A table file is the letters WMT, the bytes 0 and 1, a count of 1 to 32, and for each entry m (3 to 10), r (0 to m), rounds (1 to 16) in one
  * byte each and the leaf limit (1 to 1,000,000) in four, senior byte first; nothing after the last. Entries are numbered from 0.

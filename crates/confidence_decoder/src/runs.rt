@@ -12,7 +12,7 @@ ghost use Rattle.confidence_decoder.specs.Runs.{RunsValues};
 use crate::answers::answered;
 use delivery::deliver;
 use refusals::Decoded;
-use value_readings::reading;
+use value_readings::read;
 
 // Puts the values in the front of the area.
 fn load(values: &[i16], area: &mut [i32])
@@ -40,7 +40,7 @@ pub fn run(
     ensures { λ d. ⌜ DecodesValues m r rounds (limited leaves (Rattle.confidences.specs.Confidences.reading r m rounds (now (values .entry)))) (now (values .entry)) (now (out .entry)) (now (out .exit)) (now (area .entry)) (now (area .exit)) d ⌝ }
 {
     load(values, area);
-    let ended = reading(m, r, rounds, leaves, area);
+    let ended = read(m, r, rounds, leaves, area);
     let answer = ended.answer;
     deliver(answer, area, out);
     area::fill(area, 0);

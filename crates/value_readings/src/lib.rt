@@ -29,20 +29,12 @@ fn unnamed(answer: Verdict) -> Ended
     Ended { answer, place: 0 }
 }
 
-// The reading of the values in the front of the area, with at most `left` leaves.
-pub fn reading(m: usize, r: usize, rounds: usize, left: usize, area: &mut [i32]) -> Ended
+// The reading of the values in the front of the area from order 2 on, with at most `left` leaves.
+fn reading(m: usize, r: usize, rounds: usize, left: usize, area: &mut [i32]) -> Ended
     requires { ⌜ Ready m r left (now area) ⌝ }
+    requires { ⌜ 2 ≤ r ⌝ }
     ensures { λ e. ⌜ ReadsValues m r rounds left (frontOf (2 ^ m) (now (area .entry))) (now (area .exit)) e ⌝ }
 {
-    if r == 0 {
-        return unnamed(zero_order(m, area));
-    }
-    if r == 1 {
-        if left == 0 {
-            return unnamed(Verdict::Refused(Noise::TooManyLeaves, 0, left));
-        }
-        return unnamed(first_order(m, area));
-    }
     let mut k = 0;
     let mut used = 0;
     while k < rounds {
@@ -90,4 +82,22 @@ fn round(m: usize, r: usize, rounds: usize, left: usize, area: &mut [i32]) -> Co
     }
     conclude(m, abstained, area);
     Count::Done(used, abstained)
+}
+
+// The reading of the values in the front of the area, with at most `left` leaves. Orders 0 and 1 are not read in the cycle, so that a call for
+// one goes straight to it.
+pub fn read(m: usize, r: usize, rounds: usize, left: usize, area: &mut [i32]) -> Ended
+    requires { ⌜ Ready m r left (now area) ⌝ }
+    ensures { λ e. ⌜ ReadsValues m r rounds left (frontOf (2 ^ m) (now (area .entry))) (now (area .exit)) e ⌝ }
+{
+    if r == 0 {
+        return unnamed(zero_order(m, area));
+    }
+    if r == 1 {
+        if left == 0 {
+            return unnamed(Verdict::Refused(Noise::TooManyLeaves, 0, left));
+        }
+        return unnamed(first_order(m, area));
+    }
+    reading(m, r, rounds, left, area)
 }

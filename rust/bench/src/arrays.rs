@@ -1,5 +1,6 @@
 //! Races of arrays: against plain Rust that decodes each row and each column by itself.
 
+use crate::area::Area;
 use crate::race::{race, Given, Runner};
 use check::arrays::codewords;
 use check::random::Random;
@@ -53,10 +54,11 @@ fn races_of(m: usize, r: usize) -> Result<(), String> {
             clean.iter().zip(noise).map(|(bit, wrong)| bit ^ wrong).collect()
         };
         let arrays: Vec<Vec<u8>> = (0..16).map(|_| array()).collect();
-        let (mut area, mut work) = (vec![0; 8 << m], plain::Workspace::default());
+        let (mut area, mut work) = (Area::new(m), plain::Workspace::default());
+        let area = area.numbers();
         let runners = vec![
             runner("library", places, |word, out| {
-                let answer = calls::decode_array([m, r, m, r], LIMITS, word, out, &mut area);
+                let answer = calls::decode_array([m, r, m, r], LIMITS, word, out, area);
                 (answer.refusal as u64, answer.leaves)
             }),
             runner("plain", places, |word, out| {

@@ -1,5 +1,6 @@
 //! Races of decoding confidences by profile.
 
+use crate::area::Area;
 use crate::decoding::library;
 use crate::decoding::opponent;
 use crate::race::{race, Runner};
@@ -40,9 +41,10 @@ fn races_of(number: usize) -> Result<(), String> {
         let count = if number == 4 { 2 } else { 64 };
         let blocks: Vec<Vec<i16>> = (0..count).map(|_| block(&mut random, p, noise)).collect();
         let mut work = plain::SoftWorkspace::default();
-        let mut area = vec![0; 8 << p.m];
+        let mut area = Area::new(p.m);
+        let area = area.numbers();
         let runners: Vec<Box<dyn Runner<i16> + '_>> = vec![
-            library("library", p.m, |values, out| calls::decode_confidences_profile(number, values, out, &mut area)),
+            library("library", p.m, |values, out| calls::decode_confidences_profile(number, values, out, area)),
             opponent("plain", p.m, |values, out| plain::decode_confidences_profile(number, values, out, &mut work)),
         ];
         race(&format!("confidences, profile {number}, {kind}"), runners, &blocks)

@@ -1,5 +1,6 @@
 //! Races of decoding by profile.
 
+use crate::area::Area;
 use crate::race::{race, Given, Runner};
 use check::random::Random;
 use opponent::{plain, profile, Profile, Workspace};
@@ -99,10 +100,11 @@ impl Race {
     /// Hands over the runners, the library first.
     pub fn with_runners<T>(&self, then: impl FnOnce(Vec<Box<dyn Runner + '_>>) -> T) -> T {
         let (number, m) = (self.number, self.profile.m);
-        let mut area = vec![0; 8 << m];
+        let mut area = Area::new(m);
+        let area = area.numbers();
         let (mut plain_work, mut packed_work) = (plain::Workspace::default(), Workspace::default());
         then(vec![
-            library("library", m, |word, out| calls::decode_profile(number, word, out, &mut area)),
+            library("library", m, |word, out| calls::decode_profile(number, word, out, area)),
             opponent("plain", m, |word, out| plain::decode_profile(number, word, out, &mut plain_work)),
             opponent("packed", m, |word, out| opponent::decode_profile(number, word, out, &mut packed_work)),
         ])
@@ -111,10 +113,11 @@ impl Race {
     /// The gateway's call, which has working numbers of its own, and the library's, which is lent as many as the profile needs.
     fn with_gateway<T>(&self, then: impl FnOnce(Vec<Box<dyn Runner + '_>>) -> T) -> T {
         let (number, m) = (self.number, self.profile.m);
-        let mut area = vec![0; 8 << m];
+        let mut area = Area::new(m);
+        let area = area.numbers();
         then(vec![
             library("gateway", m, |word, out| calls::Answer::unpacked(gateway::decode(number, word, out))),
-            library("library", m, |word, out| calls::decode_profile(number, word, out, &mut area)),
+            library("library", m, |word, out| calls::decode_profile(number, word, out, area)),
         ])
     }
 }

@@ -1,5 +1,6 @@
 //! Races of the gap: against plain Rust of the same, and beside the library's decoding at order 1.
 
+use crate::area::Area;
 use crate::race::{race, side_by_side, Given, Runner};
 use check::blocks;
 use check::random::Random;
@@ -47,17 +48,18 @@ fn races_at(m: usize) -> Result<(), String> {
     let mut random = Random::new(400 + m as u64);
     KINDS.into_iter().try_for_each(|(kind, word)| {
         let words: Vec<Vec<u8>> = (0..64).map(|_| word(&mut random, m)).collect();
-        let (mut area, mut area_beside, mut area_decoding) = (vec![0; 8 << m], vec![0; 8 << m], vec![0; 8 << m]);
+        let mut areas = [Area::new(m), Area::new(m), Area::new(m)];
+        let [area, area_beside, area_decoding] = areas.each_mut().map(Area::numbers);
         let mut out = vec![0; 1 << m];
         let plain = |word: &[u8]| {
             let answer = plain::gap(m, word);
             (answer.refusal as u64, answer.leaves as u64)
         };
-        let runners = vec![runner("library", |word| numbers(calls::gap(m, word, &mut area))), runner("plain", plain)];
+        let runners = vec![runner("library", |word| numbers(calls::gap(m, word, area))), runner("plain", plain)];
         race(&format!("gap (m {m}), {kind}"), runners, &words)?;
         let beside = vec![
-            runner("library", |word| numbers(calls::gap(m, word, &mut area_beside))),
-            runner("decode", |word| numbers(calls::decode(m, 1, 1, 1, word, &mut out, &mut area_decoding))),
+            runner("library", |word| numbers(calls::gap(m, word, area_beside))),
+            runner("decode", |word| numbers(calls::decode(m, 1, 1, 1, word, &mut out, area_decoding))),
         ];
         side_by_side(&format!("gap (m {m}), {kind}"), beside, &words);
         Ok(())

@@ -1,6 +1,7 @@
 //! Races of the library against the decoders written for speed, all in one run. The first argument says which:
 //! decode, codes, gap, arrays, load, confidences, gateway, listing or all; or instructions, which counts them and takes no time.
 
+mod area;
 mod arrays;
 mod codes;
 mod confidences;

@@ -12,15 +12,13 @@ use borrow.Fn.Kinds.{In, Out}
 use borrow.Fn.PlainCycle.{Measures, is, falls, and}
 use Rattle.words.proofs.size.Reads as size-reads
 use Rattle.value_orders.proofs.ends.finish.Reads as finish-reads
-use Rattle.value_orders.proofs.first_order.Reads as first-order-reads
-use Rattle.value_orders.proofs.zero_order.Reads as zero-order-reads
 use Rattle.value_readings.proofs.rounds.answers.hear_answer.Reads as hear-answer-reads
 use Rattle.value_readings.proofs.rounds.ends.clear.Reads as clear-reads
 use Rattle.value_readings.proofs.rounds.ends.conclude.Reads as conclude-reads
 use Rattle.value_readings.proofs.rounds.leaf_round.Reads as leaf-round-reads
 use Rattle.value_steps.proofs.project.Reads as project-reads
 use Rattle.value_readings.proofs.Directions.{Round, From, Progress, Lent, Came, progress-none, next-projects, lent-ready, came-asks, heard-over, heard-few, heard-absent, heard-more, last-asks, last-renewed}
-use Rattle.value_readings.proofs.Turns.{Turn, read-zero, read-one, read-none, turn-first, turn-ready, turn-exhausted, turn-few, turn-more, turn-last, leaf-lower, ready-rounded}
+use Rattle.value_readings.proofs.Turns.{Turn, turn-first, turn-ready, turn-exhausted, turn-few, turn-more, turn-last, leaf-lower, ready-rounded}
 use Rattle.value_readings.proofs.unnamed.Reads as unnamed-reads
 use Rattle.value_readings.proofs.reading.Reads as reading
 use Rattle.value_readings.proofs.reading.Kinds as reading-kinds
@@ -53,14 +51,10 @@ round-below t = and 1 round-kinds.ps (falls 1 round-kinds.ps _<_ μ-round t) rou
 -- what the callees of each ask and give
 abbrev reading-given : ℕ → reading-lts.Claims
 reading-given t = (
-  zero-order-reads.Asked,
-  zero-order-reads.Learnt,
-  unnamed-reads.Asked,
-  unnamed-reads.Learnt,
-  first-order-reads.Asked,
-  first-order-reads.Learnt,
   round-below t,
   round.Post,
+  unnamed-reads.Asked,
+  unnamed-reads.Learnt,
   finish-reads.Asked,
   finish-reads.Learnt,
 )
@@ -137,9 +131,6 @@ Rounding t N = N (round-given t) (round-at t) round.Post round-Inv round-μ
 module _ (t : ℕ) where
   -- ---- `reading`
 
-  above : (c : Reading t reading-lts.Else2) → 2 ≤ c .before .before .args .r
-  above c = omega (arith, c .if2 .left, c .before .if1 .left)
-
   -- from the place after a round: its call, the loop's state, and the entry
   abbrev rounded : Reading t reading-lts.After-known-told → Reading t reading-lts.After-round
   rounded c = c .before .before .before .before
@@ -148,7 +139,7 @@ module _ (t : ℕ) where
   turned c = rounded c .before .before .before
 
   abbrev begun : Reading t reading-lts.After-known-told → Reading t reading-lts.Start
-  begun c = turned c .before .before .before
+  begun c = turned c .before
 
   made-few : (c : Reading t reading-lts.After-known-told) → turned c .loop .used + c .before .leaves .given .0 .0 ≤ begun c .args .left
   made-few c =
@@ -156,48 +147,16 @@ module _ (t : ℕ) where
       turn-few (a .m) (a .r) (a .rounds) (a .left) (a .area .now) (turned c .loop .inv) (rounded c .before .before .loop-test .taken) (rounded c .round .ensures) _ _
       (c .before .leaves .given .1)
 
-  reading-zero-order-requires : Reading t reading-lts.Need-zero-order-requires
-  reading-zero-order-requires c κs = let p = c .before .before .pre .1 in (p .small, p .values)
-
-  reading-unnamed-requires : Reading t reading-lts.Need-unnamed-requires
-  reading-unnamed-requires c κs = tt
-
-  reading-same-length : Reading t reading-lts.Need-same-length
-  reading-same-length c = c .before .before .zero-order .kept .1 .0
-
-  reading-returns : Reading t reading-lts.Need-returns
-  reading-returns c = let z = c .before .before in read-zero _ _ _ _ _ _ (z .before .before .if1 .taken) (c .unnamed .ensures) (z .zero-order .ensures)
-
-  reading-unnamed-requires-2 : Reading t reading-lts.Need-unnamed-requires-2
-  reading-unnamed-requires-2 c κs = tt
-
-  reading-returns-2 : Reading t reading-lts.Need-returns-2
-  reading-returns-2 c = read-none _ _ _ _ _ _ (c .before .before .if2 .taken) (c .before .if3 .taken) (c .unnamed2 .ensures)
-
-  reading-first-order-requires : Reading t reading-lts.Need-first-order-requires
-  reading-first-order-requires c κs = let p = c .before .before .before .before .pre .1 in (p .some, p .small, p .values)
-
-  reading-unnamed-requires-3 : Reading t reading-lts.Need-unnamed-requires-3
-  reading-unnamed-requires-3 c κs = tt
-
-  reading-same-length-2 : Reading t reading-lts.Need-same-length-2
-  reading-same-length-2 c = c .before .before .first-order .kept .1 .0
-
-  reading-returns-3 : Reading t reading-lts.Need-returns-3
-  reading-returns-3 c =
-      let f = c .before .before in
-      read-one _ _ _ _ _ _ (f .before .before .before .if2 .taken) (f .before .before .if3 .left) (c .unnamed3 .ensures) (f .first-order .ensures)
-
   reading-loop-holds : Reading t reading-lts.Need-loop-holds
   reading-loop-holds c =
-      let s = c .before .before in
-      turn-first (s .args .m) (s .args .r) (s .args .rounds) (s .args .left) (s .args .area .now) (above c) (s .pre .1)
+      let p = c .pre .1 in
+      turn-first (c .args .m) (c .args .r) (c .args .rounds) (c .args .left) (c .args .area .now) (p .1) (p .0)
 
   reading-sub-round : Reading t reading-lts.Need-sub-round
-  reading-sub-round c = c .before .before .before .before .pre .1 .some
+  reading-sub-round c = c .before .before .pre .1 .0 .some
 
   reading-sub-round-2 : Reading t reading-lts.Need-sub-round-2
-  reading-sub-round-2 c = le-of-lt (above (c .before .before))
+  reading-sub-round-2 c = le-of-lt (c .before .before .pre .1 .1)
 
   reading-sub-round-3 : Reading t reading-lts.Need-sub-round-3
   reading-sub-round-3 c = c .before .loop .inv .few
@@ -205,34 +164,34 @@ module _ (t : ℕ) where
   reading-round-requires : Reading t reading-lts.Need-round-requires
   reading-round-requires c κs =
       let l = c .before .before in
-      let s = l .before .before .before in
+      let s = l .before in
       let a = s .args in
-      (falls-round (above (l .before)) (s .pre .0), turn-ready (a .m) (a .r) (a .rounds) (a .left) (a .area .now) (l .loop .inv))
+      (falls-round (s .pre .1 .1) (s .pre .0), turn-ready (a .m) (a .r) (a .rounds) (a .left) (a .area .now) (l .loop .inv))
 
   reading-enum-told : Reading t reading-lts.Need-enum-told
   reading-enum-told c = c .match .keys1
 
-  reading-unnamed-requires-4 : Reading t reading-lts.Need-unnamed-requires-4
-  reading-unnamed-requires-4 c κs = tt
+  reading-unnamed-requires : Reading t reading-lts.Need-unnamed-requires
+  reading-unnamed-requires c κs = tt
 
-  reading-same-length-3 : Reading t reading-lts.Need-same-length-3
-  reading-same-length-3 c =
+  reading-same-length : Reading t reading-lts.Need-same-length
+  reading-same-length c =
       let r = c .before .before .before .before in
       r .round .kept .1 .1 .1 .1 .0 ∙ r .before .before .before .loop .inv .long
 
-  reading-returns-4 : Reading t reading-lts.Need-returns-4
-  reading-returns-4 c =
+  reading-returns : Reading t reading-lts.Need-returns
+  reading-returns c =
       let r = c .before .before .before .before in
       let l = r .before .before .before in
-      let a = l .before .before .before .args in
+      let a = l .before .args in
       turn-exhausted (a .m) (a .r) (a .rounds) (a .left) (a .area .now) (l .loop .inv) (r .before .before .loop-test .taken) (r .round .ensures)
-      (c .before .enum-told .given .1) (c .unnamed4 .ensures)
+      (c .before .enum-told .given .1) (c .unnamed .ensures)
 
   reading-enum-known-leaves : Reading t reading-lts.Need-enum-known-leaves
   reading-enum-known-leaves c = c .match .keys2
 
   reading-add-used : Reading t reading-lts.Need-add-used
-  reading-add-used c = record { fits = omega (arith, begun c .pre .1 .few, made-few c) }
+  reading-add-used c = record { fits = omega (arith, begun c .pre .1 .0 .few, made-few c) }
 
   reading-add-k : Reading t reading-lts.Need-add-k
   reading-add-k c = record { fits = next-fits (rounded c .before .before .loop-test .taken) (begun c .fits .rounds .fits) }
@@ -249,18 +208,18 @@ module _ (t : ℕ) where
   reading-finish-requires : Reading t reading-lts.Need-finish-requires
   reading-finish-requires c κs =
       let l = c .before .before in
-      let p = l .before .before .before .pre .1 in
+      let p = l .before .pre .1 .0 in
       (p .small, room-two _ (l .loop .inv .long) (p .room))
 
-  reading-same-length-4 : Reading t reading-lts.Need-same-length-4
-  reading-same-length-4 c = c .before .finish .kept .1 .1 .1 .1 .0 ∙ c .before .before .before .before .loop .inv .long
+  reading-same-length-2 : Reading t reading-lts.Need-same-length-2
+  reading-same-length-2 c = c .before .finish .kept .1 .1 .1 .1 .0 ∙ c .before .before .before .before .loop .inv .long
 
-  reading-returns-5 : Reading t reading-lts.Need-returns-5
-  reading-returns-5 c =
+  reading-returns-2 : Reading t reading-lts.Need-returns-2
+  reading-returns-2 c =
       let f = c .before in
       let e = f .before .before in
       let l = e .before in
-      let a = l .before .before .before .args in
+      let a = l .before .args in
       turn-last (a .m) (a .r) (a .rounds) (a .left) (a .area .now) (l .loop .inv) (e .loop-test .left) (f .finish .ensures .0) (f .finish .ensures .1)
 
   -- ---- `round`
@@ -397,7 +356,10 @@ module _ (t : ℕ) where
   round-part-reading-end c = omega arith
 
   round-reading-requires : Rounding t round-lts.Need-reading-requires
-  round-reading-requires c κs = (falls-reading _ (entry (first (turn3 (c .before))) .pre .0), lent-ready (lent (c .before)))
+  round-reading-requires c κs =
+      let e = sized (first (turn3 (c .before))) .before in
+      let p = e .before .pre in
+      (falls-reading _ (p .0), (lent-ready (lent (c .before)), omega (arith, e .if1 .left, p .1 .1)))
 
   round-add-hear-answer : Rounding t round-lts.Need-add-hear-answer
   round-add-hear-answer c = record { fits = small-fits (next-small (turn4 c)) }
@@ -471,33 +433,23 @@ pub +reading+round-spec : {M : Type 1} → statement M
 +reading+round-spec =
     close μ-reading μ-round
     (λ t. reading-lts.spec (reading-given t) (reading-at t) reading.Post reading-Inv reading-μ
-    (reading-zero-order-requires t)
-    (reading-unnamed-requires t)
-    (reading-same-length t)
-    (reading-returns t)
-    (reading-unnamed-requires-2 t)
-    (reading-returns-2 t)
-    (reading-first-order-requires t)
-    (reading-unnamed-requires-3 t)
-    (reading-same-length-2 t)
-    (reading-returns-3 t)
     (reading-loop-holds t)
     (reading-sub-round t)
     (reading-sub-round-2 t)
     (reading-sub-round-3 t)
     (reading-round-requires t)
     (reading-enum-told t)
-    (reading-unnamed-requires-4 t)
-    (reading-same-length-3 t)
-    (reading-returns-4 t)
+    (reading-unnamed-requires t)
+    (reading-same-length t)
+    (reading-returns t)
     (reading-enum-known-leaves t)
     (reading-add-used t)
     (reading-add-k t)
     (reading-loop-less t)
     (reading-loop-again t)
     (reading-finish-requires t)
-    (reading-same-length-4 t)
-    (reading-returns-5 t))
+    (reading-same-length-2 t)
+    (reading-returns-2 t))
     (λ t. round-lts.spec (round-given t) (round-at t) round.Post round-Inv round-μ
     (round-leaf-round-requires t)
     (round-same-length t)

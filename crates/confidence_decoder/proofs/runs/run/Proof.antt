@@ -10,8 +10,8 @@ load-requires c κs =
     let s = c .before .before .pre in
     omega (arith, s .input .size, s .room)
 
-reading-requires : tie.Need-reading-requires
-reading-requires c κs = loaded-ready (record { runs = c .before .before .before .before .before .pre; loaded = c .before .before .load .ensures })
+read-requires : tie.Need-read-requires
+read-requires c κs = loaded-ready (record { runs = c .before .before .before .before .before .pre; loaded = c .before .before .load .ensures })
 
 deliver-requires : tie.Need-deliver-requires
 deliver-requires c κs =
@@ -20,8 +20,8 @@ deliver-requires c κs =
     read-delivers
     (record {
       loads = record { runs = l .before .before .before .pre; loaded = l .load .ensures };
-      same = r .reading .kept .1 .1 .1 .1 .0;
-      read = r .reading .ensures;
+      same = r .read .kept .1 .1 .1 .1 .0;
+      read = r .read .ensures;
     })
 
 fill-requires : tie.Need-fill-requires
@@ -36,7 +36,7 @@ answered-requires c κs =
       s .small,
       s .input,
       read-accepts
-          (record { loads = record { runs = s; loaded = l .load .ensures }; same = r .reading .kept .1 .1 .1 .1 .0; read = r .reading .ensures })
+          (record { loads = record { runs = s; loaded = l .load .ensures }; same = r .read .kept .1 .1 .1 .1 .0; read = r .read .ensures })
           (v .deliver .ensures),
     )
 
@@ -55,8 +55,8 @@ returns c =
     read-decodes
     (record {
       loads = record { runs = l .before .before .before .pre; loaded = l .load .ensures };
-      same = r .reading .kept .1 .1 .1 .1 .0;
-      read = r .reading .ensures;
+      same = r .read .kept .1 .1 .1 .1 .0;
+      read = r .read .ensures;
     })
     (v .deliver .ensures) (f .fill .ensures) (c .answered .ensures)
 
@@ -65,7 +65,7 @@ run-spec =
     tie.close
     (tie.spec
     load-requires
-    reading-requires
+    read-requires
     deliver-requires
     fill-requires
     answered-requires
