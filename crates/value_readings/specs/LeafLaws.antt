@@ -1,17 +1,18 @@
 -- Directions of a round, read at order 1, one at a time and four. Assumes nothing.
-use Prim.Native.Nat.{ℕ, zero, suc, _+_, _-_, _*_, _^_, _≤_, _<_}
+use Prim.Native.Nat.{ℕ, zero, suc, _+_, _-_, _*_, _/_, _%_, _^_, _≤_, _<_}
 use native.Mathlib.Decide.{ℕ-discrete}
 use native.Mathlib.Nat.{add-assoc, mul-le-mul-right, suc-mul, zero-add}
 use native.Mathlib.Omega.{arith}
-use mathlib.Core.Path.{_≡_, sym, ap, ap₂, subst, _∙_}
-use mathlib.Core.Bool.{Bool, cond}
+use mathlib.Core.Path.{_≡_, refl, sym, ap, ap₂, subst, _∙_}
+use mathlib.Core.Bool.{Bool, true, false, cond}
 use mathlib.Core.List.{List}
 use lib.Arith.{digits-div, digits-mod}
 use lib.Bits.{bitXor, xor-lt}
+use lib.Dec.{ltb}
 use lib.ListN.{length}
 use lib.IntN.{ℤ, pos, natAbs, _+ℤ_, +ℤ-idl}
-use lib.Pow.{pow-mono}
 use lib.Seq.{getD-take}
+use borrow.Author.Tests.{le-ltb, lt-ltb, ltb-false, ltb-true}
 use Rattle.words.specs.Parts.{part-length, part-at}
 use Rattle.words.specs.Sum.{total}
 use Rattle.words.specs.SumLaws.{sum-ext, sum-same, sumℤ-ext}
@@ -29,7 +30,7 @@ use Rattle.confidences.specs.ValueLaws.{same-front, same-values}
 use Rattle.confidences.specs.Values.{Projects, ProjectsFour, Sums, fourProjected, frontOf, heardAt}
 use Rattle.value_steps.specs.Shares.{wordAt, wordsAt}
 use Rattle.value_orders.specs.Leaves.{Leaf}
-use Rattle.value_readings.specs.Polls.{LeafAt, Poll, Polled, ReadAt, leaf, partOf, silence, silences}
+use Rattle.value_readings.specs.Polls.{LeafAt, Next, Poll, Polled, ReadAt, leaf, partOf, silence, silences, together}
 use Rattle.value_readings.specs.PollLaws.{front-then, poll-more, poll-projects, poll-range, poll-sums, written-front}
 
 -- ---- a part of the area
@@ -146,7 +147,7 @@ parts-room : (m l : ℕ) → l < 4 → partAt m l + 2 ^ m ≤ 8 * 2 ^ m
 parts-room m l h = omega (arith, suc-mul l (2 ^ m), mul-le-mul-right (2 ^ m) h)
 
 -- 2 ^ suc m is a multiple of 4
-pub fours-room : (m k : ℕ) → 1 ≤ m → 4 * k < 2 ^ suc m → 4 * k + 3 < 2 ^ suc m
+fours-room : (m k : ℕ) → 1 ≤ m → 4 * k < 2 ^ suc m → 4 * k + 3 < 2 ^ suc m
 fours-room zero k h l = absurd (omega arith)
 fours-room (suc m) k h l = omega arith
 
@@ -268,11 +269,37 @@ module _ {m k : ℕ} {w : ℕ → Bool} {xs ys : List ℤ} (quad : Quad m k 4 w 
       (λ p l. new .within p l ∙ ap₂ _+ℤ_ (same .same (2 ^ suc m + p) (omega arith)) (sumℤ-ext 4 _ _ (word-four p l)))
       (sum-ext 4 _ _ silence-four)
 
--- ---- a round
+-- ---- a round: how many are heard together, and that each is one leaf
 
--- there are three directions below 4
-pub three-first : (m : ℕ) → 1 ≤ m → 3 ≤ 2 ^ suc m - 1
-three-first m h = omega (arith, pow-mono {i = 2} {j = suc m} (omega arith))
+pub together-one : (i : ℕ) → i < 3 → together i ≡ 1
+together-one i h = rw (lt-ltb i 3 h)
+
+pub together-four : (i : ℕ) → 3 ≤ i → together i ≡ 4
+together-four i h = rw (le-ltb i 3 h)
+
+pub together-some : (i : ℕ) → 1 ≤ together i
+together-some i = go (ltb i 3)
+  where
+    go : (t : Bool) → 1 ≤ cond t 1 4
+    go true = omega arith
+    go false = omega arith
+
+pub next-room : (m i : ℕ) → 1 ≤ m → Next m i → i + together i ≤ 2 ^ suc m - 1
+next-room m i some next = go (ltb i 3) refl
+  where
+    go : (t : Bool) → ltb i 3 ≡ t → i + cond t 1 4 ≤ 2 ^ suc m - 1
+    go true q = omega (arith, next .more)
+    go false q =
+        let whole = next .whole (ltb-false i 3 q) in
+        let room = fours-room m ((i + 1) / 4) some (omega (arith, next .more, whole)) in omega (arith, whole, room)
+
+-- whole fours were heard then too
+pub next-whole : (i : ℕ) → (3 ≤ i → (i + 1) % 4 ≡ 0) → 3 ≤ i + together i → (i + together i + 1) % 4 ≡ 0
+next-whole i whole = go (ltb i 3) refl
+  where
+    go : (t : Bool) → ltb i 3 ≡ t → 3 ≤ i + cond t 1 4 → (i + cond t 1 4 + 1) % 4 ≡ 0
+    go true q h = omega (arith, ltb-true i 3 q)
+    go false q h = omega (arith, whole (ltb-false i 3 q))
 
 -- each direction is one leaf
 pub leaf-round-leaves : (m : ℕ) (v : List ℤ) → roundLeaves m (leaf m) v ≡ 2 ^ suc m - 1

@@ -1,11 +1,11 @@
 -- What a round of confidences and its directions ask and promise. Assumes nothing.
-use Prim.Native.Nat.{ℕ, suc, _+_, _-_, _*_, _^_, _≤_, _<_}
+use Prim.Native.Nat.{ℕ, suc, _+_, _-_, _*_, _%_, _^_, _≤_, _<_}
 use mathlib.Core.Path.{_≡_}
 use mathlib.Core.Bool.{Bool, cond}
 use mathlib.Core.List.{List}
 use lib.ListN.{length, take, drop}
 use lib.Bits.{bitXor}
-use lib.Dec.{eqb}
+use lib.Dec.{eqb, ltb}
 use lib.IntN.{ℤ, pos, natAbs, _+ℤ_}
 use Rattle.words.specs.Sum.{sumBelow}
 use Rattle.words.specs.Written.{Written}
@@ -53,6 +53,17 @@ pub record Polled (m : ℕ) (lower : List ℤ → Outcome) (i j : ℕ) (xs ys : 
   pub poll : Poll m lower j ys
   pub front : SameFront (2 ^ suc m) xs ys
   pub silent : abstainedTo m lower (frontOf (2 ^ suc m) xs) i + a ≡ abstainedTo m lower (frontOf (2 ^ suc m) xs) j
+
+-- ---- how many are heard together, where each is read at order 1
+
+-- after the first i: of the first three one, then four
+abbrev pub together : ℕ → ℕ
+together i = cond (ltb i 3) 1 4
+
+-- more follow the first i, which are whole fours from the fourth on
+pub record Next (m i : ℕ) : Type 0 where
+  pub more : i < 2 ^ suc m - 1
+  pub whole : 3 ≤ i → (i + 1) % 4 ≡ 0
 
 -- ---- readings of a higher order: the word that an answer tells of stands by bits
 

@@ -1,5 +1,4 @@
 -- `read`: orders 0 and 1, too few leaves, and what stands from order 2 on. Assumes nothing.
-use Prim.Native.Nat.{_≤_}
 use native.Mathlib.Omega.{arith}
 use Rattle.value_readings.proofs.Turns.{read-zero, read-one, read-none}
 use Rattle.value_readings.proofs.read.Statement.{statement}

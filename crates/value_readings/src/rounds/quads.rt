@@ -36,7 +36,7 @@ fn share_words(m: usize, k: usize, a: bool, b: bool, c: bool, d: bool, area: &mu
 }
 
 // Directions 4k to 4k + 3; how many abstain.
-fn hear_four(m: usize, k: usize, area: &mut [i32]) -> usize
+pub fn hear_four(m: usize, k: usize, area: &mut [i32]) -> usize
     requires { ⌜ (1 ≤ k) × (4 * k < 2 ^ suc m) ⌝ }
     requires { ⌜ Poll m (leaf m) (4 * k - 1) (now area) ⌝ }
     ensures { λ a. ⌜ Polled m (leaf m) (4 * k - 1) (4 * k + 3) (now (area .entry)) (now (area .exit)) a ⌝ }
@@ -48,19 +48,4 @@ fn hear_four(m: usize, k: usize, area: &mut [i32]) -> usize
     let c = read_part(m, 6 * n, area);
     let d = read_part(m, 7 * n, area);
     share_words(m, k, a, b, c, d, area)
-}
-
-// Directions 4 to 2^(m + 1) - 1; how many abstain.
-pub fn hear_fours(m: usize, area: &mut [i32]) -> usize
-    requires { ⌜ Poll m (leaf m) 3 (now area) ⌝ }
-    ensures { λ a. ⌜ Polled m (leaf m) 3 (2 ^ suc m - 1) (now (area .entry)) (now (area .exit)) a ⌝ }
-{
-    let n = words::size(m);
-    let mut k = 1;
-    let mut abstained = 0;
-    while 4 * k < 2 * n {
-        abstained += hear_four(m, k, area);
-        k += 1;
-    }
-    abstained
 }
