@@ -48,7 +48,7 @@ all-both zero f g = refl
 all-both (suc n) f g = ap (λ (b : Bool). b && (f n && g n)) (all-both n f g) ∙ and-swap (allBelow n f) (allBelow n g) (f n) (g n)
 
 module _ (xs : List ℤ) (h : ℕ) where
-  -- place i of the last level: its sign and its partner's are added, and neither of the two values is 0
+  -- what is tested at place i of the last level: its sign and its partner's add up as those of place 0 do, and neither value is 0
   abbrev pub lastAt : ℕ → Bool
   lastAt i = eqb ((signAt xs i + signAt xs (h + i)) % 2) ((signAt xs 0 + signAt xs h) % 2) && (isSome xs i && isSome xs (h + i))
 
@@ -64,7 +64,7 @@ module _ (xs : List ℤ) (h : ℕ) where
       (all-both h (isSome xs) (λ i. isSome xs (h + i)) ∙ sym (all-append h h (isSome xs)))
 
 module _ (m : ℕ) (xs : List ℤ) where
-  pub clean-test : levelsTest m (signAt xs) && allBelow (2 ^ m) (isSome xs) ≡ cleanTest m xs
+  clean-test : levelsTest m (signAt xs) && allBelow (2 ^ m) (isSome xs) ≡ cleanTest m xs
   unfolding cleanTest
   clean-test =
       ap (λ (z : Bool). z && allBelow (2 ^ m) (isSome xs))

@@ -3,7 +3,7 @@
 const LINE: usize = 64;
 
 /// Numbers that start on a cache line. A call clears its area by the C library's function, which stores up to 64 bytes at a time; where such
-/// a store lies across two pages a short call takes a sixth longer, so that where the heap puts an area would decide a race.
+/// a store lies across two pages a short call takes up to a quarter longer, so that where the heap puts an area would decide a race.
 pub struct Area {
     room: Vec<i32>,
     length: usize,
