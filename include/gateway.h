@@ -1,4 +1,4 @@
-/* The calls of the gateway whose receive loop is C (or C++): link libgateway.a, which `rt staticlib gateway` builds to target/staticlib, and
+/* The calls of the gateway whose receive loop is C (or C++): link libgateway.a, which .ci/archive gateway builds to target/staticlib, and
  * `./deliver` with this header to a folder of its own. The library stands alone; it asks memcpy and memset of the C library, nothing else.
  *
  * Words and messages have one byte for each bit, 0 or 1. With n = 2^m places and k message bits, the sum of the binomials of m over 0 to r, the

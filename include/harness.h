@@ -1,4 +1,4 @@
-/* The calls of the core for C and C++: link target/staticlib/libharness.a, which `rt staticlib harness` builds.
+/* The calls of the core for C and C++: link target/staticlib/libharness.a, which .ci/archive harness builds.
  *
  * A slice is a pointer and a length. No contract can check these, so the caller keeps to them:
  *   - no pointer is null, also where its length is 0;

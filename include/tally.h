@@ -1,4 +1,4 @@
-/* A tally of answers by number for a receive loop in C or C++: link target/staticlib/libtally.a, which `rt staticlib tally` builds.
+/* A tally of answers by number for a receive loop in C or C++: link target/staticlib/libtally.a, which .ci/archive tally builds.
  *
  * The loop owns the tally and lends it; the pointer is not null, and the tally overlaps nothing else that the call could see.
  */

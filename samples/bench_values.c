@@ -2,7 +2,7 @@
  * from C: ends with 0 only where every one of them holds.
  * It is C++ as well.
  *
- *   rt staticlib harness && cc -Iinclude samples/bench_values.c target/staticlib/libharness.a -o target/bench_values && target/bench_values
+ *   .ci/archive harness && cc -Iinclude samples/bench_values.c target/staticlib/libharness.a -o target/bench_values && target/bench_values
  */
 #include <stdio.h>
 #include <string.h>

@@ -1,7 +1,7 @@
 /* A receive loop in C: reads a capture from standard input, decodes each record by the gateway's calls and prints billing's listing, line for
  * line what the program meter_list prints. It is C++ as well.
  *
- *   rt staticlib gateway && cc -Iinclude samples/gateway.c target/staticlib/libgateway.a -o target/gateway && target/gateway <samples/example.cap
+ *   .ci/archive gateway && cc -Iinclude samples/gateway.c target/staticlib/libgateway.a -o target/gateway && target/gateway <samples/example.cap
  */
 #include <stdio.h>
 #include <string.h>

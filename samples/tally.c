@@ -1,6 +1,6 @@
 /* A tally of answers as a receive loop in C keeps it: ends with 0 only where every count is as it must be. It is C++ as well.
  *
- *   rt staticlib tally && cc -Iinclude samples/tally.c target/staticlib/libtally.a -o target/tally && target/tally
+ *   .ci/archive tally && cc -Iinclude samples/tally.c target/staticlib/libtally.a -o target/tally && target/tally
  */
 #include <stdio.h>
 

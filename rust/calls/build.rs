@@ -7,7 +7,7 @@ fn main() {
     let library = folder.join("libharness.a");
     println!("cargo:rerun-if-changed={}", library.display());
     if !library.is_file() {
-        eprintln!("target/staticlib/libharness.a is missing: run `rt staticlib harness` in the root of the repository");
+        eprintln!("target/staticlib/libharness.a is missing: run .ci/archive harness");
         std::process::exit(1);
     }
     println!("cargo:rustc-link-search=native={}", folder.display());

@@ -7,7 +7,7 @@ fn main() {
     let library = folder.join("libgateway.a");
     println!("cargo:rerun-if-changed={}", library.display());
     if !library.is_file() {
-        eprintln!("target/staticlib/libgateway.a is missing: run `rt staticlib gateway` in the root of the repository");
+        eprintln!("target/staticlib/libgateway.a is missing: run .ci/archive gateway");
         std::process::exit(1);
     }
     println!("cargo:rustc-link-search=native={}", folder.display());

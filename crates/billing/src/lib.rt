@@ -15,7 +15,7 @@ fn put_accepted(serial: u32, message: &[u8], out: &mut [u8], at: usize) -> usize
 {
     let a = text::put_ten(serial, out, at);
     let b = text::put_byte(32, out, a);
-    let c = hex::put_hex(message, out, b);
+    let c = hex_digits::put_hex(message, out, b);
     text::put_byte(10, out, c)
 }
 

@@ -19,5 +19,5 @@ pub extern "C" fn rm_decode_array(
     ensures { ReturnsArray (array_call mr rr mc rc rounds leaves word.now (length out.old) (length area.old)) word.now out.old out.new area.old area.new result }
 {
     let answer = array_decoder::decode_array(mr, rr, mc, rc, rounds, leaves, word, out, area);
-    packing::arrays::pack_array(answer)
+    packing::array_answers::pack_array(answer)
 }

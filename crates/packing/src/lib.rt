@@ -11,7 +11,7 @@ use codec::Tested;
 use gap::Measured;
 use refusals::{Answer, Decoded};
 
-pub mod arrays;
+pub mod array_answers;
 pub mod by_table;
 pub mod loads;
 pub mod runs;

@@ -6,7 +6,7 @@ use street_settings::Settings;
 use walks::Next;
 
 mod arguments;
-mod messages;
+mod complaints;
 
 // Prints the summary.
 fn summarise(counts: Counts) {
@@ -21,7 +21,7 @@ fn run(s: Settings) {
     let next = w.next;
     let counts = w.counts;
     match next {
-        Next::Refused(why) => messages::refused(why),
+        Next::Refused(why) => complaints::refused(why),
         Next::End => summarise(counts),
         Next::Step => summarise(counts),
     }
@@ -30,7 +30,7 @@ fn run(s: Settings) {
 fn main() {
     match arguments::read() {
         Given::Settings(s) => run(s),
-        Given::NotNumber(i) => messages::not_number(i),
-        Given::TooMany(i) => messages::too_many(i),
+        Given::NotNumber(i) => complaints::not_number(i),
+        Given::TooMany(i) => complaints::too_many(i),
     }
 }

@@ -6,12 +6,12 @@ ghost use Rattle.tables.specs.Tables.{ours, slot_of};
 ghost use Rattle.street_runs.specs.Run.{Runs, run_checks};
 
 use refusals::Answer;
-use steps::{none_sent, run_steps};
-use streets::checks::{check_room, check_settings};
+use stepping::{none_sent, run_steps};
+use streets::street_checks::{check_room, check_settings};
 use streets::{Plan, Street};
 use tables::{Slot, Table};
 
-mod steps;
+mod stepping;
 
 // What a run answers: the blocks sent, those accepted right, accepted as another codeword and refused, whether a step answered that none is
 // left, and the street after it.

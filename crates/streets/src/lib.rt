@@ -4,13 +4,13 @@ ghost use Rattle.tables.specs.Tables.{ours, slot_of};
 ghost use Rattle.streets.specs.State.{Steps, begins};
 
 use refusals::Refusal;
-use steps::step_in;
+use street_steps::step_in;
 use tables::Table;
 
-pub mod checks;
 mod meters;
 mod sends;
-pub mod steps;
+pub mod street_checks;
+pub mod street_steps;
 
 // The settings beside the profile: the wrong places asked in a block, the meters, and in how many later turns those refused send again.
 #[derive(Drop)]

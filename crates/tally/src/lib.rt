@@ -1,10 +1,12 @@
 // A tally of answers by number.
+#![tactic(auto)]
+
 ghost use Rattle.std.specs.Prelude.{◌≡◌, length};
 ghost use Rattle.tally.specs.Counts.{tallied};
 
 // A count for each of the answers 0 to 31.
 #[repr(C)]
-#[derive(Drop)]
+#[derive(Clone, Copy)]
 pub struct Tally {
     pub counts: [u32; 32],
 }
@@ -24,8 +26,7 @@ pub fn counted(t: Tally, answer: usize) -> Tally
 }
 
 // Counts one more answer in the tally that the receive loop lends.
-#[unsafe(no_mangle)]
-pub extern "C" fn count_answer(t: &mut Tally, answer: usize)
+pub fn count_answer(t: &mut Tally, answer: usize)
     ensures { t.new ≡ tallied answer t.old }
 {
     *t = counted(*t, answer);

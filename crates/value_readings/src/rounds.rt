@@ -4,14 +4,14 @@ ghost use Rattle.std.specs.Prelude.{◌≡◌, ◌+◌};
 ghost use Rattle.value_readings.specs.Polls.{leaf, Next, Poll, Polled, Renewed, Rounded, together};
 
 use ends::{clear, conclude};
+use fours::hear_four;
 use leaves::hear;
-use quads::hear_four;
 use steps::Count;
 
 pub mod answers;
 pub mod ends;
+mod fours;
 mod leaves;
-mod quads;
 
 // How many directions are heard next, after so many: of the first three one, then four.
 fn next_few(heard: usize) -> usize

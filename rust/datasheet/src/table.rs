@@ -44,14 +44,14 @@ fn number(word: &str) -> u64 {
     word.parse().expect("a number")
 }
 
-/// The statement of the theorem `data-sheet`.
+/// The statement of the theorem `data_sheet`.
 pub fn codes(text: &str) -> Vec<Code> {
     let code = |words: Vec<String>| {
         let [m, r, distance, mended, leaves, fits] = &words[..] else { panic!("a line has 6 parts, not {words:?}") };
         let (m, r) = (number(m) as usize, number(r) as usize);
         Code { m, r, distance: number(distance), mended: number(mended), leaves: number(leaves), fits: fits == "true" }
     };
-    applications(statement(text, "pub data-sheet :"), "line").into_iter().map(code).collect()
+    applications(statement(text, "pub data_sheet :"), "line").into_iter().map(code).collect()
 }
 
 /// The definition `profiles`.

@@ -13,10 +13,10 @@ use std::thread;
 
 pub const HEADER: [u8; 5] = [b'W', b'M', b'R', 0, 1];
 
-/// Where `rt ci` and `rt check NAME` put a program.
+/// Where `rt ci` and `rt run` put a program.
 fn built(name: &str) -> PathBuf {
-    let path = PathBuf::from(env!("CARGO_MANIFEST_DIR")).join("../../target/bin").join(name);
-    assert!(path.exists(), "{} is missing: run `rt check {name}`", path.display());
+    let path = PathBuf::from(env!("CARGO_MANIFEST_DIR")).join("../../crates").join(name).join("out").join(name);
+    assert!(path.exists(), "{} is missing: run .ci/program {name}", path.display());
     path
 }
 
