@@ -1,4 +1,5 @@
 // Two calls of the decoder, which answer alike on words that differ by a codeword: document 01, demand 3, and document 02, request 4.
+#![tactic(auto)]
 ghost use Rattle.profiles.specs.Profiles.{profile_of};
 ghost use Rattle.tables.specs.Tables.{entry_of};
 ghost use Rattle.alike.specs.Alike.{Differ, Fit, Alike};
@@ -7,7 +8,7 @@ use refusals::Decoded;
 use tables::Table;
 
 // What the two calls answer.
-#[derive(Drop)]
+#[derive(Clone, Copy)]
 pub struct Both {
     pub first: Decoded,
     pub second: Decoded,

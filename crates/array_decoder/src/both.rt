@@ -4,7 +4,7 @@ ghost use Rattle.array_decoder.specs.Alike.{AlikeArrays, DifferArrays, FitArray}
 use crate::{ArrayDecoded, decode_array};
 
 // What the two calls answer.
-#[derive(Drop)]
+#[derive(Clone, Copy)]
 pub struct BothArrays {
     pub first: ArrayDecoded,
     pub second: ArrayDecoded,

@@ -1,4 +1,5 @@
 // Blocks in rows and columns, decoded: document 02, request 12.
+#![tactic(auto)]
 ghost use Rattle.std.specs.Prelude.{◌≡◌, cond, length};
 ghost use Rattle.arrays.specs.Arrays.{array_call, array_read};
 ghost use Rattle.array_decoder.specs.Calls.{DecodesArray};
@@ -12,7 +13,7 @@ pub mod both;
 mod sides;
 
 // What a call on an array answers, with the summed leaf count.
-#[derive(Drop)]
+#[derive(Clone, Copy)]
 pub enum ArrayDecoded {
     Accepted(usize),
     Refused(Refusal, usize),

@@ -52,7 +52,7 @@ fn test(sound: bool, m: usize, r: usize, line: &[u8], t: &mut [u8]) -> bool
 }
 
 // What reading columns tells: the leaf count, and whether all of them are now codewords.
-#[derive(Drop)]
+#[derive(Clone, Copy)]
 pub struct Read {
     pub leaves: usize,
     pub codewords: bool,

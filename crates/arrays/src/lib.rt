@@ -1,1 +1,2 @@
 // Blocks in rows and columns, as definitions and theorems: specs/.
+#![tactic(auto)]

@@ -1,4 +1,5 @@
 // Four bytes of a block as one number.
+#![tactic(auto)]
 ghost use Rattle.std.specs.Prelude.{◌≡◌, ◌+◌, ◌*◌, ◌≤◌, length};
 ghost use Rattle.byte_quads.specs.ByteQuads.{quad_at, Bytes};
 

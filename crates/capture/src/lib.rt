@@ -1,4 +1,5 @@
 // The capture reader: the record that starts at a position.
+#![tactic(auto)]
 ghost use Rattle.std.specs.Prelude.{◌≡◌, ◌+◌, ◌%◌, ◌^◌, ◌≤◌, ◌<◌, length, true};
 ghost use Rattle.tables.specs.Slots.{Proper};
 ghost use Rattle.capture.specs.Capture.{profile_at, serial_of, word_size, body_length, Finds, Stands};
@@ -7,7 +8,7 @@ use refusals::Refusal;
 use tables::{Slot, Table};
 
 // What stands at a position of a capture.
-#[derive(Drop)]
+#[derive(Clone, Copy)]
 pub enum Found {
     // the serial, the profile, and the position after the record
     Record(u32, usize, usize),

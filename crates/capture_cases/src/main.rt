@@ -1,5 +1,6 @@
 // The capture reader called at positions of a capture with word buffers of right and wrong lengths. A line for each call: the answer, and
 // what the buffer holds, 2 where nothing was written.
+#![tactic(auto)]
 use capture::Found;
 use libc::STDOUT_FILENO;
 

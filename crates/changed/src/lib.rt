@@ -1,5 +1,6 @@
 // A block and the same block changed, decoded at order 1: fewer changed places than a quarter of the gap leave the codeword. Document 02,
 // request 13.
+#![tactic(auto)]
 ghost use Rattle.std.specs.Prelude.{◌≡◌};
 ghost use Rattle.refusals.specs.Refusals.{first_refusal};
 ghost use Rattle.profiles.specs.Profiles.{profile_of};
@@ -11,7 +12,7 @@ use gap::Measured;
 use refusals::Decoded;
 
 // What the calls answer: the gap of the first block, and both decodings.
-#[derive(Drop)]
+#[derive(Clone, Copy)]
 pub struct Three {
     pub gap: Measured,
     pub first: Decoded,

@@ -1,4 +1,5 @@
 // Reed-Muller codes: the encoder, the message reader and the codeword test.
+#![tactic(auto)]
 ghost use Rattle.codec.specs.Calls.{Encodes, Reads, Tests};
 
 use codec_checks::{check_codeword, check_message, check_word};
@@ -8,7 +9,7 @@ use reader::read_in;
 use refusals::{Answer, Refusal};
 
 // What the codeword test answers.
-#[derive(Drop)]
+#[derive(Clone, Copy)]
 pub enum Tested {
     Codeword,
     NotCodeword,

@@ -9,7 +9,7 @@ use refusals::Decoded;
 use tables::Table;
 
 // What the two calls answer.
-#[derive(Drop)]
+#[derive(Clone, Copy)]
 pub struct BothValues {
     pub first: Decoded,
     pub second: Decoded,

@@ -1,1 +1,2 @@
 // The decoder for confidences, as definitions and theorems: specs/.
+#![tactic(auto)]

@@ -1,4 +1,5 @@
 // The crew's listing.
+#![tactic(auto)]
 use readers::Reader;
 
 fn main() {

@@ -9,7 +9,7 @@ use profiles::Profile;
 use readers::Reader;
 
 // Where a line ends, and 1 where its record was accepted.
-#[derive(Drop)]
+#[derive(Clone, Copy)]
 pub struct Line {
     pub end: usize,
     pub accepted: usize,

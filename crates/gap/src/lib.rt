@@ -1,4 +1,5 @@
 // How far a block of order 1 is from another answer: the gap between the greatest and the second absolute correlation.
+#![tactic(auto)]
 ghost use Rattle.std.specs.Prelude.{true, ◌≡◌, ◌≤◌, length, pos};
 ghost use Rattle.words.specs.Word.{IsWord, bit};
 ghost use Rattle.words.specs.Written.{Written};
@@ -14,7 +15,7 @@ use refusals::{Answer, Refusal};
 mod pairs;
 
 // What `gap` answers.
-#[derive(Drop)]
+#[derive(Clone, Copy)]
 pub enum Measured {
     Gap(usize),
     Refused(Refusal),

@@ -10,7 +10,7 @@ ghost use Rattle.gap.specs.Gap.{gap_below};
 ghost use Rattle.gap.specs.Measuring.{unlike, Heights, Size, Small};
 
 // The greatest of the sizes of some pairs, and the greatest of their other sizes.
-#[derive(Drop)]
+#[derive(Clone, Copy)]
 struct Tops {
     most: i32,
     lower: i32,
@@ -44,7 +44,7 @@ fn to_sizes(h: usize, part: &mut [i32]) -> Tops
 }
 
 // How many of some sizes are the greatest, and the greatest of the others.
-#[derive(Drop)]
+#[derive(Clone, Copy)]
 struct Rest {
     count: u32,
     second: i32,

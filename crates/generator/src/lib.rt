@@ -1,4 +1,5 @@
 // The generator of a load: states, messages, wrong places.
+#![tactic(auto)]
 ghost use Rattle.std.specs.Prelude.{◌≡◌, ◌^◌, ◌≤◌, ◌<◌, length};
 ghost use Rattle.words.specs.Sum.{tabulate};
 ghost use Rattle.generator.specs.Generator;
@@ -27,7 +28,7 @@ pub fn draw_message(start: u32, message: &mut [u8]) -> u32
 }
 
 // A state, and how many places are wrong.
-#[derive(Drop)]
+#[derive(Clone, Copy)]
 pub struct Places {
     pub state: u32,
     pub wrong: usize,

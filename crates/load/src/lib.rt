@@ -1,4 +1,5 @@
 // Loads that anyone can repeat: blocks, and captures of them.
+#![tactic(auto)]
 ghost use Rattle.std.specs.Prelude.{◌≡◌};
 ghost use Rattle.tables.specs.Slots.{Proper};
 ghost use Rattle.tables.specs.Tables.{ours, slot_of};
@@ -18,7 +19,7 @@ mod records;
 pub mod starts;
 
 // What a call for a block answers: the state after it, and whether the block was left short.
-#[derive(Drop)]
+#[derive(Clone, Copy)]
 pub struct Next {
     pub answer: Answer,
     pub state: u32,
@@ -26,7 +27,7 @@ pub struct Next {
 }
 
 // What a call for a capture answers: the state after the last block, and how many blocks were left short.
-#[derive(Drop)]
+#[derive(Clone, Copy)]
 pub struct Captured {
     pub answer: Answer,
     pub state: u32,

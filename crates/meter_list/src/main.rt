@@ -1,4 +1,5 @@
 // The meter listing, for billing.
+#![tactic(auto)]
 use readers::Reader;
 
 fn main() {

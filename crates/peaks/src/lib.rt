@@ -1,12 +1,13 @@
 // The greatest of the sums and differences of some pairs: of x + y and x - y the greater has size |x| + |y|. The sizes are searched for the
 // greatest and for the places that have it.
+#![tactic(auto)]
 ghost use Rattle.std.specs.Prelude.{◌≡◌, ◌^◌, ◌<◌, length, pos, nat_abs};
 ghost use Rattle.words.specs.Sum.{greatest_below};
 ghost use Rattle.area.specs.Area.{size_at};
 ghost use Rattle.peaks.specs.Peaks.{keys_below, lesser_size, pair_size, Sizes, PeakAt};
 
 // The mask of the greatest absolute correlation, where it is the only one, and its correlation's sign as a codeword's constant.
-#[derive(Drop)]
+#[derive(Clone, Copy)]
 pub struct Peak {
     pub mask: usize,
     pub alone: bool,

@@ -1,4 +1,5 @@
 // What was listed of a part of a capture, and what listing it needs of no decoder: whether it is there, what was listed next, the bytes left.
+#![tactic(auto)]
 ghost use Rattle.std.specs.Prelude.{◌≡◌, ◌+◌, ◌-◌, ◌*◌, ◌^◌, ◌≤◌, ◌<◌, cond, ◌++◌, length, drop};
 ghost use Rattle.tables.specs.Slots.{Proper};
 ghost use Rattle.capture.specs.Capture.{body_length};
@@ -9,7 +10,7 @@ use tables::Slot;
 
 // What was listed of a part of a capture: how many of its bytes, where the lines end in the output, how many lines there are and how
 // many of them for accepted records, and whether nothing more is to be listed.
-#[derive(Drop)]
+#[derive(Clone, Copy)]
 pub struct Listed {
     pub consumed: usize,
     pub written: usize,

@@ -1,4 +1,5 @@
 // Two parts of captures listed for the crew: the same bytes where the blocks differ by codewords. Document 02, request 7.
+#![tactic(auto)]
 ghost use Rattle.privacy.specs.Same.{SameLines, SameRecords};
 
 use pieces::Listed;
@@ -6,7 +7,7 @@ use readers::Reader;
 use tables::Table;
 
 // What the two calls answer.
-#[derive(Drop)]
+#[derive(Clone, Copy)]
 pub struct Both {
     pub first: Listed,
     pub second: Listed,

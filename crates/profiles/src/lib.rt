@@ -1,10 +1,11 @@
 // Document 01, "Profiles".
+#![tactic(auto)]
 ghost use Rattle.std.specs.Prelude.{◌≡◌, ◌<◌};
 ghost use Rattle.profiles.specs.Profiles;
 ghost use Rattle.profiles.specs.Profiles.{profile_of};
 
 // A code with the limits of its decoding.
-#[derive(Drop)]
+#[derive(Clone, Copy)]
 pub struct Profile {
     pub m: usize,
     pub r: usize,

@@ -1,5 +1,6 @@
 // A program that lists for a reader: a capture on standard input, its lines on standard output, under document 01's table. Memory is
 // bounded: the input is read, listed and its lines are written a buffer at a time.
+#![tactic(auto)]
 ghost use Rattle.std.specs.Prelude.{◌≡◌, ◌≤◌, length};
 ghost use Rattle.readers.specs.Readers.{lines_for};
 ghost use Rattle.programs.specs.Program.{Ran, Turned};

@@ -1,4 +1,5 @@
 // Four numbers packed in one: the numbers of a quad, and the pairs that their sums and their differences are.
+#![tactic(auto)]
 ghost use Rattle.std.specs.Prelude.{cond, ◌≡◌, ◌<◌, eqb};
 ghost use Rattle.quads.specs.Quads.{number_of, first_sum, last_sum, first_difference, last_difference, Raisable};
 
@@ -11,7 +12,7 @@ fn number_of(z: i32, w: u32) -> i32
 }
 
 // Two numbers, of which the peak is the sum or the difference.
-#[derive(Drop)]
+#[derive(Clone, Copy)]
 pub struct Pair {
     pub x: i32,
     pub y: i32,

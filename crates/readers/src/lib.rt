@@ -1,4 +1,5 @@
 // The lines of a listing for each of its readers. Nothing else of the listing asks who reads it.
+#![tactic(auto)]
 ghost use Rattle.std.specs.Prelude.{◌+◌, ◌≤◌, length};
 ghost use Rattle.refusals.specs.Refusals.{number_of};
 ghost use Rattle.text.specs.Texts.{Appended};
@@ -9,7 +10,7 @@ ghost use Rattle.readers.specs.Readers.{lines_for};
 use profiles::Profile;
 use refusals::{Decoded, Refusal};
 
-#[derive(Drop)]
+#[derive(Clone, Copy)]
 pub enum Reader {
     Billing,
     Crew,

@@ -1,9 +1,10 @@
 // What calls answer, and why they are refused.
+#![tactic(auto)]
 ghost use Rattle.std.specs.Prelude.{◌≡◌};
 ghost use Rattle.refusals.specs.Refusals.{number_of, place_of};
 
 // Document 01, "Refusals by who causes them", and those of document 02, in the order of their numbers.
-#[derive(Drop)]
+#[derive(Clone, Copy)]
 pub enum Refusal {
     Exponent,
     Order,
@@ -43,14 +44,14 @@ pub enum Refusal {
 }
 
 // What a call that gives nothing but its output answers.
-#[derive(Drop)]
+#[derive(Clone, Copy)]
 pub enum Answer {
     Done,
     Refused(Refusal),
 }
 
 // What a decoding answers: its rounds and its leaf count, and where it accepts the places that it mended.
-#[derive(Drop)]
+#[derive(Clone, Copy)]
 pub enum Decoded {
     Accepted(usize, usize, usize),
     Refused(Refusal, usize, usize),

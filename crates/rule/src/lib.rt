@@ -1,1 +1,2 @@
 // The rule of projection and vote, as definitions and theorems: specs/.
+#![tactic(auto)]

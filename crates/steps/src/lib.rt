@@ -1,4 +1,5 @@
 // What a direction's answer does to the votes.
+#![tactic(auto)]
 ghost use Rattle.std.specs.Prelude.{◌≡◌, ℕ, suc, ◌+◌, ◌^◌, pos, ◌+ℤ◌};
 ghost use Rattle.words.specs.Written.{Written};
 ghost use Rattle.area.specs.Area.{at};
@@ -9,7 +10,7 @@ ghost use Rattle.steps.specs.Steps.{count_in, vote_of, Voter, Unmoved};
 use told::{Noise, Told, Verdict};
 
 // The leaf count of a direction or a round and how many directions abstained; or that the leaves left do not suffice.
-#[derive(Drop)]
+#[derive(Clone, Copy)]
 pub enum Count {
     Done(usize, usize),
     Exhausted,

@@ -2,7 +2,7 @@
 use street_settings::{Argument, Asked, Settings};
 
 // The settings that the arguments ask, or the number of the first argument that is bad.
-#[derive(Drop)]
+#[derive(Clone, Copy)]
 pub enum Given {
     Settings(Settings),
     NotNumber(usize),

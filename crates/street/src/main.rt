@@ -1,4 +1,5 @@
 // A street before the digging, for planners: settings as arguments, a line for each step as it is made, then the summary.
+#![tactic(auto)]
 use arguments::Given;
 use libc::STDOUT_FILENO;
 use street_report::Counts;

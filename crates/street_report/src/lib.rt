@@ -1,4 +1,5 @@
 // What a planner reads of a street: a line for each step, and the summary.
+#![tactic(auto)]
 ghost use Rattle.std.specs.Prelude.{◌≡◌, ◌+◌, ◌≤◌, ◌++◌, length, eqb};
 ghost use Rattle.words.specs.Word.{indicator};
 ghost use Rattle.text.specs.Numbers.{decimal};
@@ -11,7 +12,7 @@ use streets::Fate;
 use turns::plus;
 
 // The blocks sent, those accepted right, accepted as another codeword and refused, and the meters never read.
-#[derive(Drop)]
+#[derive(Clone, Copy)]
 pub struct Counts {
     pub sent: u64,
     pub right: u64,

@@ -1,4 +1,5 @@
 // Runs of a street from its start: so many steps at most, their log and counts.
+#![tactic(auto)]
 ghost use Rattle.std.specs.Prelude.{[]};
 ghost use Rattle.refusals.specs.Refusals.{Checked};
 ghost use Rattle.tables.specs.Slots.{Proper};
@@ -15,7 +16,7 @@ mod stepping;
 
 // What a run answers: the blocks sent, those accepted right, accepted as another codeword and refused, whether a step answered that none is
 // left, and the street after it.
-#[derive(Drop)]
+#[derive(Clone, Copy)]
 pub struct Ran {
     pub answer: Answer,
     pub sent: usize,

@@ -1,4 +1,5 @@
 // The settings of a street, from the arguments of a program: numbers in decimal, and one word.
+#![tactic(auto)]
 ghost use Rattle.std.specs.Prelude.{◌≡◌, true, ◌<◌, length};
 ghost use Rattle.words.specs.Sum.{all_below};
 ghost use Rattle.words.specs.Word.{bit};
@@ -7,7 +8,7 @@ ghost use Rattle.street_settings.specs.Settings.{all_digits, asked, defaults, is
 
 // What a planner tries: the profile, the wrong places asked in a block, the meters, their retries, the load's start; and whether the summary
 // alone is to be printed.
-#[derive(Drop)]
+#[derive(Clone, Copy)]
 pub struct Settings {
     pub profile: usize,
     pub wrong: usize,
@@ -18,14 +19,14 @@ pub struct Settings {
 }
 
 // What the arguments so far ask, and how many of them were numbers.
-#[derive(Drop)]
+#[derive(Clone, Copy)]
 pub struct Asked {
     pub settings: Settings,
     pub numbers: usize,
 }
 
 // What an argument says.
-#[derive(Drop)]
+#[derive(Clone, Copy)]
 pub enum Argument {
     Taken(Asked),
     NotNumber,
@@ -33,7 +34,7 @@ pub enum Argument {
 }
 
 // What a text says.
-#[derive(Drop)]
+#[derive(Clone, Copy)]
 pub enum Number {
     Of(u32),
     Bad,

@@ -1,4 +1,5 @@
 // Streets tried out before the digging: meters that send in turn, each block the next of one load, one block a step.
+#![tactic(auto)]
 ghost use Rattle.std.specs.Prelude.{◌≡◌};
 ghost use Rattle.tables.specs.Tables.{ours, slot_of};
 ghost use Rattle.streets.specs.State.{Steps, begins};
@@ -13,7 +14,7 @@ pub mod street_checks;
 pub mod street_steps;
 
 // The settings beside the profile: the wrong places asked in a block, the meters, and in how many later turns those refused send again.
-#[derive(Drop)]
+#[derive(Clone, Copy)]
 pub struct Plan {
     pub wrong: usize,
     pub meters: usize,
@@ -22,7 +23,7 @@ pub struct Plan {
 
 // How far a street is: the load's state, the turn, the meters below `at` have had it, and which meters are to send (not 0): those from `at`
 // on in this turn, those below it, which were refused, in the next.
-#[derive(Drop)]
+#[derive(Clone, Copy)]
 pub struct Street {
     pub state: u32,
     pub turn: usize,
@@ -31,7 +32,7 @@ pub struct Street {
 }
 
 // What became of a block: accepted right, accepted as another codeword, or refused.
-#[derive(Drop)]
+#[derive(Clone, Copy)]
 pub enum Fate {
     Right,
     Other,
@@ -39,7 +40,7 @@ pub enum Fate {
 }
 
 // What a step shows.
-#[derive(Drop)]
+#[derive(Clone, Copy)]
 pub enum Shown {
     // The meter, its try and its answer.
     Sent(usize, usize, Fate),
@@ -48,7 +49,7 @@ pub enum Shown {
 }
 
 // What a step shows, and the street after it.
-#[derive(Drop)]
+#[derive(Clone, Copy)]
 pub struct Stepped {
     pub shown: Shown,
     pub street: Street,

@@ -5,7 +5,7 @@ ghost use Rattle.streets.specs.State.{next_due, sender_of, waits_from};
 use crate::{Plan, Street};
 
 // Nobody, or a meter at a try.
-#[derive(Drop)]
+#[derive(Clone, Copy)]
 pub enum Sender {
     Nobody,
     Meter(usize, usize),

@@ -10,7 +10,7 @@ use profiles::Profile;
 use refusals::Decoded;
 
 // What became of a block, and the load's state after it.
-#[derive(Drop)]
+#[derive(Clone, Copy)]
 pub struct Sending {
     pub fate: Fate,
     pub state: u32,

@@ -1,4 +1,5 @@
 // Tables of profiles: what a table has at a number, and document 01's table.
+#![tactic(auto)]
 ghost use Rattle.std.specs.Prelude.{◌≡◌};
 ghost use Rattle.tables.specs.Tables.{in_limits, slot_of};
 ghost use Rattle.tables.specs.Slots.{slot_by};
@@ -6,14 +7,14 @@ ghost use Rattle.tables.specs.Slots.{slot_by};
 use profiles::Profile;
 
 // The first `count` entries, by their numbers.
-#[derive(Drop)]
+#[derive(Clone, Copy)]
 pub struct Table {
     pub count: usize,
     pub entries: [Profile; 32],
 }
 
 // What a table has at a number: whether it has an entry there, within the limits, and that entry.
-#[derive(Drop)]
+#[derive(Clone, Copy)]
 pub struct Slot {
     pub known: bool,
     pub profile: Profile,

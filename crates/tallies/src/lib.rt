@@ -1,4 +1,5 @@
 // Sixteen places for tallies under names of 8 bytes.
+#![tactic(auto)]
 ghost use Rattle.std.specs.Prelude.{◌≡◌, ◌<◌};
 ghost use Rattle.tallies.specs.Store;
 ghost use Rattle.tallies.specs.Store.{kept, same_name, where_held, free_place, room_for, freed, empty_store, saved, returned, dropped};
@@ -8,26 +9,26 @@ use tally::Tally;
 
 pub mod scripts;
 
-#[derive(Drop)]
+#[derive(Clone, Copy)]
 pub struct Name {
     pub bytes: [u8; 8],
 }
 
 // A tally under a name, where the place is used.
-#[derive(Drop)]
+#[derive(Clone, Copy)]
 pub struct Place {
     pub used: bool,
     pub name: Name,
     pub tally: Tally,
 }
 
-#[derive(Drop)]
+#[derive(Clone, Copy)]
 pub struct Store {
     pub places: [Place; 16],
 }
 
 // What a call answers, and the tally and the store after it.
-#[derive(Drop)]
+#[derive(Clone, Copy)]
 pub struct Kept {
     pub answer: Answer,
     pub tally: Tally,

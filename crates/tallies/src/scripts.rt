@@ -9,7 +9,7 @@ use refusals::Answer;
 use tally::{Tally, counted, of_counts, put};
 
 // How many operations a run made, and the tally after them.
-#[derive(Drop)]
+#[derive(Clone, Copy)]
 pub struct Ran {
     pub made: usize,
     pub tally: Tally,

@@ -1,4 +1,5 @@
 // The turns of a program that lists its input: what is kept from turn to turn, and the reading of more.
+#![tactic(auto)]
 ghost use Rattle.std.specs.Prelude.{◌≡◌, ◌+◌, ◌≤◌, length};
 ghost use Rattle.turns.specs.Turns.{Came, Filled, capped};
 
@@ -6,7 +7,7 @@ use libc::STDIN_FILENO;
 
 // What is kept from turn to turn: how many bytes the buffer holds, whether the input has ended with them, the lines and the accepted
 // records counted, and whether to go on.
-#[derive(Drop)]
+#[derive(Clone, Copy)]
 pub struct State {
     pub held: usize,
     pub last: bool,

@@ -14,7 +14,7 @@ use told::{Noise, Verdict};
 use value_steps::magnitudes::cut;
 
 // What a reading of confidences answers, and the place that 17 names; 0 where the answer is another.
-#[derive(Drop)]
+#[derive(Clone, Copy)]
 pub struct Ended {
     pub answer: Verdict,
     pub place: usize,

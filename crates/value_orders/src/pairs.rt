@@ -8,7 +8,7 @@ use peaks::Peak;
 
 // The greatest keys of some pairs: 512 times the size, and with it the place or what is left to 511. Of equal sizes the last place wins by the
 // one and the first by the other.
-#[derive(Drop)]
+#[derive(Clone, Copy)]
 struct Keys {
     last: i32,
     first: i32,

@@ -58,7 +58,7 @@ pub fn project_four(m: usize, k: usize, area: &mut [i32])
 // ---- shares
 
 // Which of four directions have a word; the others abstain.
-#[derive(Drop)]
+#[derive(Clone, Copy)]
 pub struct Voices {
     pub a: bool,
     pub b: bool,

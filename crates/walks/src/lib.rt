@@ -1,4 +1,5 @@
 // A walk along a street: its steps, each shown as it is made, until no meter is left to send.
+#![tactic(auto)]
 ghost use Rattle.std.specs.Prelude.{◌≡◌, ◌^◌, ◌≤◌, length};
 ghost use Rattle.tables.specs.Tables.{ours, slot_of};
 ghost use Rattle.streets.specs.State.{shows};
@@ -11,7 +12,7 @@ use street_settings::Settings;
 use streets::{Fate, Plan, Shown, Street};
 
 // What comes after a step: another, or the walk is at its end, with no meter left, or the settings are refused.
-#[derive(Drop)]
+#[derive(Clone, Copy)]
 pub enum Next {
     Step,
     End,
@@ -19,7 +20,7 @@ pub enum Next {
 }
 
 // The street, what was counted on the way, and what comes next.
-#[derive(Drop)]
+#[derive(Clone, Copy)]
 pub struct Walk {
     pub street: Street,
     pub counts: Counts,

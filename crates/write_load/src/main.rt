@@ -1,4 +1,5 @@
 // Writes the capture of 100 blocks of a load to standard output: start 1, profile 1, 3 wrong places.
+#![tactic(auto)]
 ghost use Rattle.std.specs.Prelude.{◌≡◌, length};
 ghost use Rattle.tables.specs.Tables.{ours, slot_of};
 ghost use Rattle.load.specs.Records.{capture_of};
