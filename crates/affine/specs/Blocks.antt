@@ -12,7 +12,7 @@ use Rattle.words.specs.SumLaws.{length-tabulate, get_or-tabulate, tabulate_ext, 
 use Rattle.words.specs.Ones.{ones_block}
 use Rattle.words.specs.Written.{Written, written_run}
 use Rattle.area.specs.Area.{at, IsBit}
-use Rattle.area.specs.AreaLaws.{is_bit, bit_back, bits_xor}
+use Rattle.area.proofs.AreaLaws.{is_bit, bit_back, bits_xor}
 use Rattle.area.specs.Numbers.{stored}
 use Rattle.affine.specs.Affine.{affine_at, repeated, Repeats}
 use Rattle.words.specs.Parts.{back_length, back_within}

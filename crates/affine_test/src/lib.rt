@@ -1,6 +1,7 @@
 // Whether the word in the front of the area is a first order codeword, level by level: each half of its places goes on as the one below it,
 // or as its complement.
 #![tactic(auto)]
+
 ghost use Rattle.std.specs.Prelude.{true, ◌≡◌, ◌+◌, ◌^◌, ◌≤◌, ◌<◌};
 ghost use Rattle.area.specs.Area.{Bits, size_at, word_of};
 ghost use Rattle.code.specs.Code.{codeword_test};

@@ -1,5 +1,6 @@
 // Two calls of the decoder, which answer alike on words that differ by a codeword: document 01, demand 3, and document 02, request 4.
 #![tactic(auto)]
+
 ghost use Rattle.profiles.specs.Profiles.{profile_of};
 ghost use Rattle.tables.specs.Tables.{entry_of};
 ghost use Rattle.alike.specs.Alike.{Differ, Fit, Alike};

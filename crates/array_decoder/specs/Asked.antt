@@ -1,7 +1,7 @@
 -- What the steps of decoding an array ask and promise. Assumes nothing.
 use Rattle.std.specs.Prelude.{ℕ, ◌+◌, ◌*◌, ◌^◌, ◌≤◌, max, ◌≡◌, List, length}
 use Rattle.words.specs.Word.{IsWord}
-use Rattle.arrays.specs.ArrayCalls.{Passed, RightArray}
+use Rattle.arrays.specs.ArraySizes.{Passed, RightArray}
 use Rattle.arrays.specs.Arrays.{column_leaves, columns_left, columns_test, row_leaves, rows_left}
 use Rattle.array_lines.specs.declared.columns.Read.{Read}
 

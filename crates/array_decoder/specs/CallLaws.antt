@@ -1,15 +1,15 @@
 -- A call's answer from its checks and its reading. Assumes nothing.
 use Rattle.std.specs.Prelude.{ℕ, ◌+◌, ◌≤◌, ◌≡◌, refl, true, List, ◌++◌, length, ℤ}
 use Rattle.std.proofs.Common.{sym, ap, ◌∙◌, arith, pow_mono}
-use Rattle.refusals.specs.CheckLaws.{all_kept, first_kept, number_pos}
+use Rattle.refusals.proofs.CheckLaws.{all_kept, first_kept, number_pos}
 use Rattle.refusals.specs.Refusals.{Check, Checked, answer_number, answer_place, first_refusal, number_of}
 use Rattle.refusals.specs.declared.Answer.{Answer}
 use Rattle.refusals.specs.declared.Answer.TheVariants.{Done, Refused as Refuses}
 use Rattle.refusals.specs.declared.Refusal.{Refusal}
 use Rattle.rule.specs.Decoding.{after}
-use Rattle.rule.specs.DecodingLaws.{after_cases}
+use Rattle.rule.proofs.DecodingLaws.{after_cases}
 use Rattle.rule.specs.Reading.{Outcome}
-use Rattle.arrays.specs.ArrayCalls.{all_passed, array_sized}
+use Rattle.arrays.proofs.ArrayCalls.{all_passed, array_sized}
 use Rattle.arrays.specs.Arrays.{array_buffers, array_limits}
 use Rattle.array_decoder.specs.declared.ArrayDecoded.{ArrayDecoded}
 use Rattle.array_decoder.specs.declared.ArrayDecoded.TheVariants.{Refused}

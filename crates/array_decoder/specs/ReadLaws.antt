@@ -4,12 +4,12 @@ use Rattle.std.proofs.Common.{sym, ap, ap₂, subst, ◌∙◌, mul-le-mul_left,
 use Rattle.std.proofs.Math.Nat.{le-max_left, le-max_right}
 use Rattle.words.specs.Parts.{front_length}
 use Rattle.words.specs.Word.{IsWord}
-use Rattle.refusals.specs.CheckLaws.{other_place}
+use Rattle.refusals.proofs.CheckLaws.{other_place}
 use Rattle.refusals.specs.declared.Refusal.TheVariants.{NotArray}
 use Rattle.rule.specs.Decoding.{zeros}
 use Rattle.rule.specs.Reading.{accepted, refused}
-use Rattle.arrays.specs.ArrayCalls.{columns_most, rows_most}
-use Rattle.arrays.specs.ArrayLaws.{columns_word, rows_word}
+use Rattle.arrays.proofs.ArrayCalls.{columns_most, rows_most}
+use Rattle.arrays.proofs.ArrayLaws.{columns_word, rows_word}
 use Rattle.arrays.specs.Arrays.{array_read, array_test, column_leaves, columns_left, row_leaves, rows_left, rows_test}
 use Rattle.array_decoder.specs.declared.ArrayDecoded.{ArrayDecoded}
 use Rattle.array_decoder.specs.declared.ArrayDecoded.TheVariants.{Accepted, Refused}

@@ -4,11 +4,12 @@ use Rattle.std.proofs.Common.{sym, ap, ◌∙◌, mul-le-mul, arith, pow-add, po
 use Rattle.std.proofs.Math.Decide.{dec_le}
 use Rattle.std.proofs.Math.Nat.{max-le}
 use Rattle.std.proofs.lemmas.Bool.{lt-leb}
-use Rattle.refusals.specs.CheckLaws.{fails, passes}
+use Rattle.refusals.proofs.CheckLaws.{fails, passes}
 use Rattle.refusals.specs.Refusals.{Checked, answer_number, code_checks, first_refusal, place_named}
 use Rattle.refusals.specs.declared.Answer.{Answer}
 use Rattle.refusals.specs.declared.Answer.TheVariants.{Done}
-use Rattle.arrays.specs.ArrayCalls.{Passed, all_passed}
+use Rattle.arrays.specs.ArraySizes.{Passed}
+use Rattle.arrays.proofs.ArrayCalls.{all_passed}
 use Rattle.arrays.specs.Arrays.{array_limits, side_checks}
 
 module _ (m r : ℕ) where

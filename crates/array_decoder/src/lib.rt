@@ -1,5 +1,6 @@
 // Blocks in rows and columns, decoded: document 02, request 12.
 #![tactic(auto)]
+
 ghost use Rattle.std.specs.Prelude.{◌≡◌, cond, length};
 ghost use Rattle.arrays.specs.Arrays.{array_call, array_read};
 ghost use Rattle.array_decoder.specs.Calls.{DecodesArray};

@@ -4,9 +4,9 @@ use Rattle.words.specs.Sum.{tabulate}
 use Rattle.words.specs.Word.{IsWord, bit}
 use Rattle.code.specs.Code.{codeword_test}
 use Rattle.rule.specs.Reading.{leaves_of}
-use Rattle.arrays.specs.ArrayCalls.{IsLimits}
+use Rattle.arrays.specs.ArraySizes.{IsLimits}
 use Rattle.arrays.specs.Arrays.{column_leaves, columns_left, columns_test, line_left, line_read}
-use Rattle.arrays.specs.Lines.{IsSide}
+use Rattle.arrays.specs.IsSide.{IsSide}
 use Rattle.array_lines.specs.declared.columns.Read.{Read}
 use Rattle.array_lines.specs.Scattered.{Scattered}
 

@@ -5,10 +5,10 @@ use Rattle.std.proofs.Math.Bool.{and-true}
 use Rattle.words.specs.Sum.{tabulate}
 use Rattle.words.specs.SumLaws.{bit_tabulate}
 use Rattle.words.specs.Word.{IsWord, bit}
-use Rattle.words.specs.WordLaws.{word_tabulate}
+use Rattle.words.proofs.WordLaws.{word_tabulate}
 use Rattle.code.specs.Code.{codeword_test}
 use Rattle.code.specs.TestSteps.{steps_test}
-use Rattle.code.specs.TestStepLaws.{steps_test_lem}
+use Rattle.code.proofs.TestStepLaws.{steps_test_lem}
 use Rattle.rule.specs.Decoding.{output_of}
 use Rattle.rule.specs.Reading.{leaves_of}
 use Rattle.decoder.specs.Runs.{Runs}

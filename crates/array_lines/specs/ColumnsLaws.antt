@@ -7,11 +7,11 @@ use Rattle.std.proofs.Math.Pow.{low, split}
 use Rattle.words.specs.Sum.{all_below, sum_below, total}
 use Rattle.words.specs.SumLaws.{all_ext, all_more, sum_more, sum_most, tabulate_ext, tabulate-get_or}
 use Rattle.words.specs.Word.{IsWord, bit}
-use Rattle.words.specs.WordLaws.{word_of_bits}
+use Rattle.words.proofs.WordLaws.{word_of_bits}
 use Rattle.code.specs.Code.{codeword_test}
 use Rattle.rule.specs.Reading.{leaves_of}
 use Rattle.arrays.specs.Arrays.{column, column_leaves, columns_left, columns_test, line_left, line_read}
-use Rattle.arrays.specs.Lines.{leaves_most, left_word, picked_word}
+use Rattle.arrays.proofs.Lines.{leaves_most, left_word, picked_word}
 use Rattle.array_lines.specs.declared.columns.Read.{Read}
 use Rattle.array_lines.specs.Asked.{ColumnAsks, ColumnRead, ColumnsAsk, ColumnsRead, column_at}
 use Rattle.array_lines.specs.RowLaws.{row_ends}

@@ -2,21 +2,21 @@
 use Rattle.std.specs.Prelude.{ℕ, ◌^◌, ◌<◌, ◌≡◌, refl, true, List, length, ℤ}
 use Rattle.std.proofs.Common.{sym, ap, ◌∙◌, arith}
 use Rattle.words.specs.Word.{IsWord, distance}
-use Rattle.words.specs.WordLaws.{distance_none}
+use Rattle.words.proofs.WordLaws.{distance_none}
 use Rattle.code.specs.Code.{codeword_test}
-use Rattle.code.specs.Codewords.{test_of_codeword}
-use Rattle.refusals.specs.CheckLaws.{number_pos}
+use Rattle.code.proofs.Codewords.{test_of_codeword}
+use Rattle.refusals.proofs.CheckLaws.{number_pos}
 use Rattle.refusals.specs.Refusals.{number_of}
 use Rattle.refusals.specs.declared.Decoded.{Decoded}
 use Rattle.refusals.specs.declared.Decoded.TheVariants.{Accepted, Refused}
 use Rattle.refusals.specs.declared.Refusal.{Refusal}
 use Rattle.rule.specs.Calls.{Decodes, values_of}
 use Rattle.rule.specs.Decoding.{Values, answer_of, output_of, values}
-use Rattle.rule.specs.Demand3.{Sound}
+use Rattle.rule.proofs.Demand3.{Sound}
 use Rattle.rule.specs.Reading.{Outcome, accepted, leaves_of, refused}
 use Rattle.decoder.specs.Runs.{Runs}
 use Rattle.arrays.specs.Arrays.{line_left, line_read}
-use Rattle.arrays.specs.Lines.{line_sound}
+use Rattle.arrays.proofs.Lines.{line_sound}
 use Rattle.array_lines.specs.Asked.{Reads}
 
 -- what the decoder asks of a line

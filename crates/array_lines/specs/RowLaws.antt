@@ -8,16 +8,16 @@ use Rattle.words.specs.Parts.{at-part_of, part_length, written_part}
 use Rattle.words.specs.Sum.{all_below, sum_below, total}
 use Rattle.words.specs.SumLaws.{all_more, all_none, length-tabulate, some_false, sum_more, sum_most, tabulate_ext, tabulate-get_or}
 use Rattle.words.specs.Word.{IsWord, bit}
-use Rattle.words.specs.WordLaws.{word_tabulate}
+use Rattle.words.proofs.WordLaws.{word_tabulate}
 use Rattle.words.specs.Written.{Written, written_all, written_none, written_to}
 use Rattle.code.specs.Code.{codeword_test}
 use Rattle.code.specs.TestSteps.{steps_test}
-use Rattle.code.specs.TestStepLaws.{steps_test_lem}
+use Rattle.code.proofs.TestStepLaws.{steps_test_lem}
 use Rattle.rule.specs.Decoding.{output_of}
 use Rattle.rule.specs.Reading.{leaves_of}
 use Rattle.decoder.specs.Runs.{Runs}
 use Rattle.arrays.specs.Arrays.{line_left, line_read, row, row_leaves, rows_left, rows_test}
-use Rattle.arrays.specs.Lines.{leaves_most, left_word, picked_word}
+use Rattle.arrays.proofs.Lines.{leaves_most, left_word, picked_word}
 use Rattle.array_lines.specs.Asked.{Reads, RowsAsk, TestAsks}
 use Rattle.array_lines.specs.LineLaws.{line_runs}
 

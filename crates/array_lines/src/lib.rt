@@ -1,4 +1,5 @@
 // The rows and the columns of an array, decoded one after the other.
 #![tactic(auto)]
+
 pub mod columns;
 pub mod rows;

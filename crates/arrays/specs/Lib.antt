@@ -1,6 +1,4 @@
 -- Definitions: Arrays. The rest are laws.
 pub mod Arrays
-pub mod Lines
-pub mod ArrayLaws
-pub mod ArrayCalls
-pub mod WorkedArrays
+pub mod IsSide
+pub mod ArraySizes

@@ -2,7 +2,7 @@
 use Rattle.std.specs.Prelude.{ℕ, ◌≤◌, ◌≡◌, List}
 use Rattle.words.specs.Word.{IsWord}
 use Rattle.refusals.specs.declared.Decoded.{Decoded}
-use Rattle.refusals.specs.CheckLaws.{IsCode}
+use Rattle.refusals.specs.IsCode.{IsCode}
 use Rattle.code.specs.Code.{IsCodeword, dimension}
 use Rattle.profiles.specs.declared.Profile.{Profile}
 use Rattle.rule.specs.Decoding.{answer_of, output_of}

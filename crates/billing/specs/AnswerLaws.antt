@@ -5,11 +5,11 @@ use Rattle.refusals.specs.declared.Refusal.{Refusal}
 use Rattle.refusals.specs.declared.Decoded.{Decoded}
 use Rattle.refusals.specs.declared.Decoded.TheVariants as decoder
 use Rattle.refusals.specs.Refusals.{number_of}
-use Rattle.refusals.specs.CheckLaws.{number_pos}
+use Rattle.refusals.proofs.CheckLaws.{number_pos}
 use Rattle.profiles.specs.declared.Profile.{Profile}
 use Rattle.rule.specs.Reading.{Outcome, accepted, refused}
 use Rattle.rule.specs.Decoding.{values, answer_of, output_of}
-use Rattle.rule.specs.Demand3.{Sound, decode_sound}
+use Rattle.rule.proofs.Demand3.{Sound, decode_sound}
 use Rattle.rule.specs.Calls.{values_of}
 use Rattle.lines.specs.Lines.{decoded_by}
 use Rattle.billing.specs.Accepted.{AcceptedWord, Answered}

@@ -1,5 +1,6 @@
 // Billing's line of a record: the message of its codeword, or the refusal.
 #![tactic(auto)]
+
 ghost use Rattle.std.specs.Prelude.{◌≡◌, ℕ, ◌+◌, ◌≤◌, length};
 ghost use Rattle.code.specs.Code.{message_of};
 ghost use Rattle.lines.specs.Lines.{accepted_line, billing_line, decoded_by};

@@ -1,5 +1,6 @@
 // The peak of a block's correlations, from its quads: the greatest key, and whether its mask is alone.
 #![tactic(auto)]
+
 ghost use Rattle.std.specs.Prelude.{◌≡◌, ◌+◌};
 ghost use Rattle.peaks.specs.Peaks.{IsPeak};
 ghost use Rattle.keys.specs.Keys.{BoundedAll};

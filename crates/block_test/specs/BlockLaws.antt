@@ -8,7 +8,8 @@ use Rattle.std.specs.Int.Bits.{bit_xor}
 use Rattle.words.specs.Sum.{total}
 use Rattle.words.specs.SumLaws.{all_append, all_ext}
 use Rattle.words.specs.Xor.{xor_bits}
-use Rattle.code.specs.FirstOrder.{repeats_below, repeats, levels_test, repeats_one, levels_three}
+use Rattle.code.specs.FirstOrder.{repeats_below, repeats, levels_test}
+use Rattle.code.proofs.FirstOrderLaws.{repeats_one, levels_three}
 use Rattle.octets.specs.Octets.{packed, AreBits}
 use Rattle.octets.specs.PackedBits.{parities_bits, packed_constant, packed_equal, packed-xor}
 

@@ -1,5 +1,6 @@
 // Whether a block is a first order codeword, level by level: each half of its places goes on as the one below it, or as its complement.
 #![tactic(auto)]
+
 ghost use Rattle.std.specs.Prelude.{◌≡◌, true, ◌+◌, ◌%◌, ◌≤◌, ◌<◌, length};
 ghost use Rattle.words.specs.Word.{IsWord, bit};
 ghost use Rattle.code.specs.Code.{codeword_test};

@@ -20,7 +20,7 @@ use Rattle.words.specs.SumLaws.{get_or-tabulate, le_or_lt, length-tabulate, tabu
 use Rattle.words.specs.Written.{Written, written_run}
 use Rattle.words.specs.Word.{bit}
 use Rattle.area.specs.Area.{at, four_of}
-use Rattle.area.specs.AreaLaws.{four_as}
+use Rattle.area.proofs.AreaLaws.{four_as}
 use Rattle.area.specs.Numbers.{stored, stored-eq}
 use Rattle.correlations.specs.Begun.{Blockwise}
 use Rattle.hadamard.specs.Correlation.{correlation}

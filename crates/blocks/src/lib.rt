@@ -1,5 +1,6 @@
 // A block's bytes taken four to a number, without the area's numbers between, and transformed together.
 #![tactic(auto)]
+
 ghost use Rattle.std.specs.Prelude.{◌≡◌, ◌+◌, ◌*◌, ◌^◌, ◌≤◌, length, take};
 ghost use borrow.Rule.Slice.PartMut.{put_mid};
 ghost use Rattle.words.specs.Sum.{tabulate};

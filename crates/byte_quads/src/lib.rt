@@ -1,5 +1,6 @@
 // Four bytes of a block as one number.
 #![tactic(auto)]
+
 ghost use Rattle.std.specs.Prelude.{◌≡◌, ◌+◌, ◌*◌, ◌≤◌, length};
 ghost use Rattle.byte_quads.specs.ByteQuads.{quad_at, Bytes};
 

@@ -1,5 +1,6 @@
 // The capture reader: the record that starts at a position.
 #![tactic(auto)]
+
 ghost use Rattle.std.specs.Prelude.{◌≡◌, ◌+◌, ◌%◌, ◌^◌, ◌≤◌, ◌<◌, length, true};
 ghost use Rattle.tables.specs.Slots.{Proper};
 ghost use Rattle.capture.specs.Capture.{profile_at, serial_of, word_size, body_length, Finds, Stands};

@@ -7,15 +7,17 @@ use native.Mathlib.Omega.{arith}
 use lib.ListN.{length, get_or-eq_default}
 use lib.IntN.{ℤ}
 use Rattle.words.specs.Word.{IsWord}
-use Rattle.refusals.specs.CheckLaws.{IsCode, code_passes, passed}
+use Rattle.refusals.specs.IsCode.{IsCode}
+use Rattle.refusals.proofs.CheckLaws.{code_passes, passed}
 use Rattle.refusals.specs.Refusals.{Check, code_checks, first_refusal}
 use Rattle.refusals.specs.declared.Decoded.{Decoded}
 use Rattle.profiles.specs.Profiles.{profile_of, profiles, row}
 use Rattle.profiles.specs.declared.Profile.{Profile}
 use Rattle.rule.specs.Reading.{Outcome, accepted, reading}
 use Rattle.rule.specs.Decoding.{after, decode_call, decode_of, decode_profile_call, decode_profile_of, limit_checks, limited, number_in, answer_of, output_of}
-use Rattle.rule.specs.DecodingLaws.{RightSizes, call_is, limited_within, profile_call_is}
-use Rattle.rule.specs.ProfileLaws.{profile_limited}
+use Rattle.rule.specs.RightSizes.{RightSizes}
+use Rattle.rule.proofs.DecodingLaws.{call_is, limited_within, profile_call_is}
+use Rattle.rule.proofs.ProfileLaws.{profile_limited}
 use Rattle.rule.specs.Calls.{Decodes}
 use Rattle.alike.specs.Alike.{Fit}
 use Rattle.gap.specs.declared.Measured.{Measured}

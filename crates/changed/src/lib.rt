@@ -1,6 +1,7 @@
 // A block and the same block changed, decoded at order 1: fewer changed places than a quarter of the gap leave the codeword. Document 02,
 // request 13.
 #![tactic(auto)]
+
 ghost use Rattle.std.specs.Prelude.{◌≡◌};
 ghost use Rattle.refusals.specs.Refusals.{first_refusal};
 ghost use Rattle.profiles.specs.Profiles.{profile_of};

@@ -1,5 +1,6 @@
 // The checks of a call, in document 01's order.
 #![tactic(auto)]
+
 ghost use Rattle.std.specs.Prelude.{[], ◌++◌, ◌≤◌};
 ghost use Rattle.refusals.specs.Refusals.{Checked, code_checks};
 ghost use Rattle.rule.specs.Decoding.{limit_checks, size_checks, buffer_checks};

@@ -1,5 +1,6 @@
 // The checks of a code and of bytes, which come before any work.
 #![tactic(auto)]
+
 ghost use Rattle.std.specs.Prelude.{[]};
 ghost use Rattle.refusals.specs.Refusals.{Checked, code_checks, byte_checks};
 

@@ -5,8 +5,8 @@ use Rattle.refusals.specs.declared.Refusal.{Refusal}
 use Rattle.refusals.specs.declared.Answer.{Answer}
 use Rattle.refusals.specs.declared.Answer.TheVariants.{Done, Refused}
 use Rattle.refusals.specs.Refusals.{Check, Checked, number_of, answer_number, answer_place, place_named, first_refusal}
-use Rattle.refusals.specs.CheckLaws.{done_of, number_pos, other_place}
-use Rattle.code.specs.TestStepLaws.{steps_test_lem}
+use Rattle.refusals.proofs.CheckLaws.{done_of, number_pos, other_place}
+use Rattle.code.proofs.TestStepLaws.{steps_test_lem}
 use Rattle.code.specs.TestSteps.{steps_test}
 use Rattle.codec_checks.specs.Checks.{test_checks}
 use Rattle.codec_checks.specs.Passed.{test_passed}

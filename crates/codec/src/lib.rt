@@ -1,5 +1,6 @@
 // Reed-Muller codes: the encoder, the message reader and the codeword test.
 #![tactic(auto)]
+
 ghost use Rattle.codec.specs.Calls.{Encodes, Reads, Tests};
 
 use codec_checks::{check_codeword, check_message, check_word};

@@ -1,5 +1,6 @@
 // The checks of the encoder, the message reader and the codeword test, in their order.
 #![tactic(auto)]
+
 ghost use Rattle.std.specs.Prelude.{◌∷◌, length, eqb};
 ghost use Rattle.refusals.specs.Refusals.{Checked, check, byte_checks};
 ghost use Rattle.codec_checks.specs.Checks.{encode_checks, word_checks, test_checks};

@@ -7,10 +7,10 @@ use Rattle.words.specs.ButterflyLaws.{ByHalves, halved-entry, halved_entries, Pa
 use Rattle.words.specs.Sum.{total, tabulate}
 use Rattle.words.specs.SumLaws.{bit_tabulate}
 use Rattle.words.specs.Word.{IsWord, bit}
-use Rattle.words.specs.WordLaws.{word_ext, word_tabulate, unmod}
+use Rattle.words.proofs.WordLaws.{word_ext, word_tabulate, unmod}
 use Rattle.words.specs.Xor.{xor_bits}
 use Rattle.code.specs.Code.{coefficient}
-use Rattle.code.specs.Codewords.{coefficient-lt}
+use Rattle.code.proofs.Codewords.{coefficient-lt}
 use Rattle.code.specs.Degree.{coef, coef_low, coef_top, coef_plus, second}
 
 -- ---- coefficients by halves

@@ -8,12 +8,12 @@ use Rattle.std.proofs.lemmas.Bool.{lt-leb}
 use Rattle.words.specs.Sum.{tabulate}
 use Rattle.words.specs.SumLaws.{all_ext, bit_tabulate, length-tabulate, tabulate_ext}
 use Rattle.words.specs.Word.{bit, IsWord}
-use Rattle.words.specs.WordLaws.{word_tabulate, word_ext}
+use Rattle.words.proofs.WordLaws.{word_tabulate, word_ext}
 use Rattle.code.specs.Code.{degree, rank, dimension, spread, codeword, coefficient, low_test, codeword_test, gather, message_of}
-use Rattle.code.specs.Codewords.{coefficient-lt}
+use Rattle.code.proofs.Codewords.{coefficient-lt}
 use Rattle.code.specs.Degree.{coef, coef_parity}
-use Rattle.code.specs.Inverse.{codeword-coef, encoder_codeword, spread_high}
-use Rattle.code.specs.MessageLaws.{spread_in}
+use Rattle.code.proofs.Inverse.{codeword-coef, encoder_codeword, spread_high}
+use Rattle.code.proofs.MessageLaws.{spread_in}
 
 -- the coefficients of a word, masks ascending
 abbrev pub coefficients : ℕ → List ℕ → List ℕ

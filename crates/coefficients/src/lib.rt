@@ -1,5 +1,6 @@
 // The coefficients of a word of bytes, in place.
 #![tactic(auto)]
+
 ghost use Rattle.std.specs.Prelude.{◌≡◌, ◌+◌, ◌^◌, ◌≤◌, length};
 ghost use Rattle.words.specs.Sum.{tabulate};
 ghost use Rattle.words.specs.Word.{IsWord};

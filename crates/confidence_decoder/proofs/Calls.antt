@@ -14,7 +14,7 @@ use Rattle.tables.specs.declared.Table.{Table}
 use Rattle.tables.specs.Limits.{is_known}
 use Rattle.tables.specs.Slots.{slot_known}
 use Rattle.tables.specs.Tables.{entry_of, known, slot_of}
-use Rattle.refusals.specs.CheckLaws.{all_kept, code_passed, first_kept, number_pos, passed}
+use Rattle.refusals.proofs.CheckLaws.{all_kept, code_passed, first_kept, number_pos, passed}
 use Rattle.refusals.specs.Refusals.{Check, answer_number, answer_place, area_kept, code_checks, first_refusal, number_of}
 use Rattle.refusals.specs.declared.Answer.{Answer}
 use Rattle.refusals.specs.declared.Answer.TheVariants.{Done, Refused as Refuses}
@@ -23,12 +23,12 @@ use Rattle.refusals.specs.declared.Decoded.TheVariants.{Refused}
 use Rattle.refusals.specs.declared.Refusal.{Refusal}
 use Rattle.refusals.specs.declared.Refusal.TheVariants as refusal
 use Rattle.rule.specs.Decoding.{after, limit_checks, values}
-use Rattle.rule.specs.DecodingLaws.{after_cases}
+use Rattle.rule.proofs.DecodingLaws.{after_cases}
 use Rattle.rule.specs.Reading.{Outcome, refused}
 use Rattle.table_decoder.specs.TableLaws.{entry_passes, slot_says}
-use Rattle.confidences.specs.AlikeLaws.{profile_limits, profile_none, table_limits, table_none}
+use Rattle.confidences.proofs.AlikeLaws.{profile_limits, profile_none, table_limits, table_none}
 use Rattle.confidences.specs.Answers.{DecodesValues, confidence_call, confidence_profile_call, confidence_table_call, lowest_outside, value_checks, value_place}
-use Rattle.confidences.specs.Range.{range_tested}
+use Rattle.confidences.proofs.Range.{range_tested}
 use Rattle.confidence_decoder.specs.Checked.{CheckedValues, outside_place}
 use Rattle.confidence_decoder.specs.Runs.{RunsValues}
 

@@ -10,8 +10,8 @@ use Rattle.area.specs.Area.{at}
 use Rattle.refusals.specs.declared.Decoded.{Decoded}
 use Rattle.rule.specs.Calls.{decoded_place, values_of}
 use Rattle.rule.specs.Decoding.{limited, output_of, refusal_of, zeros}
-use Rattle.rule.specs.DecodingLaws.{limited_cases}
-use Rattle.rule.specs.Outcomes.{CodewordIn}
+use Rattle.rule.proofs.DecodingLaws.{limited_cases}
+use Rattle.rule.proofs.Outcomes.{CodewordIn}
 use Rattle.rule.specs.Reading.{Outcome, refused}
 use Rattle.told.specs.Told.{noise_number}
 use Rattle.steps.specs.Answers.{Numbered, by_answer, limited_numbered}
@@ -24,8 +24,8 @@ use Rattle.delivery.specs.DeliveryLaws as delivery
 use Rattle.delivery.specs.DeliveryLaws.{area_cleared, values_are}
 use Rattle.confidences.specs.Answers.{DecodesValues, value_place}
 use Rattle.confidences.specs.Confidences.{reading, signs_of, zero_place}
-use Rattle.confidences.specs.Likeness.{reading_in}
-use Rattle.confidences.specs.ValueLaws.{front_is, front_values}
+use Rattle.confidences.proofs.Likeness.{reading_in}
+use Rattle.confidences.proofs.ValueLaws.{front_is, front_values}
 use Rattle.confidences.specs.Values.{front_of}
 use Rattle.value_orders.specs.declared.ends.Ended.{Ended}
 use Rattle.value_readings.specs.Answers.{reading_unlimited}

@@ -2,12 +2,12 @@
 use Rattle.std.specs.Prelude.{ℕ, ◌≤◌, ◌<◌, ◌≡◌, refl, Bool, true, false, not, cond, List, [], ◌∷◌, ◌++◌, eqb, ℤ, nat_abs, length}
 use Rattle.std.proofs.Common.{sym, ap, ◌∙◌, arith, le-leb, le-ltb, lt-ltb, ne_eqb}
 use Rattle.std.proofs.lemmas.Bool.{false≢true, lt-leb}
-use Rattle.words.specs.Search.{first_where_lem}
+use Rattle.words.proofs.Search.{first_where_lem}
 use Rattle.words.specs.Sum.{first_where}
 use Rattle.words.specs.SumLaws.{both_true}
 use Rattle.words.specs.Word.{lowest_bad}
 use Rattle.area.specs.Area.{at}
-use Rattle.refusals.specs.CheckLaws.{Numbered, fails, holds_place, no_more, passes, placeless, stops, then}
+use Rattle.refusals.proofs.CheckLaws.{Numbered, fails, holds_place, no_more, passes, placeless, stops, then}
 use Rattle.refusals.specs.Refusals.{Check, check, Checked, answer_number, first_refusal, place_named}
 use Rattle.refusals.specs.declared.Answer.{Answer}
 use Rattle.refusals.specs.declared.Answer.TheVariants.{Done, Refused}

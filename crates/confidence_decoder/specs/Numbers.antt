@@ -16,7 +16,7 @@ sixteen z = to_z w16 (of_z w16 z)
 -- a number that was read from a slice of them fits
 module _ (z : ℤ) (h : mag z < 32768) where
   pub sixteen-eq : sixteen z ≡ z
-  sixteen-eq = to_z-of_z (record { sfits = h })
+  sixteen-eq = to_z-of_z {w = w16} (record { sfits = h })
 
   -- and so it does 32 bits
   pub sixteen_fits : SFits w32 (sixteen z)

@@ -4,8 +4,8 @@ use Rattle.words.specs.Word.{IsWord}
 use Rattle.told.specs.declared.Verdict.{Verdict}
 use Rattle.told.specs.declared.Verdict.TheVariants.{Accepted, Refused}
 use Rattle.delivery.specs.Delivery.{noise_place}
-use Rattle.confidences.specs.Range.{InRange}
-use Rattle.confidences.specs.Rounds.{IsBlock}
+use Rattle.confidences.specs.InRange.{InRange}
+use Rattle.confidences.specs.Blocks.{IsBlock}
 
 -- a call that passed its checks
 pub record RunsValues (m r leaves : ℕ) (x : List ℤ) (out : List ℕ) (area : List ℤ) : Type 0 where

@@ -5,7 +5,7 @@ ghost use Rattle.hadamard.specs.Correlation.{constant_of};
 ghost use Rattle.rule.specs.Calls.{values_of, decoded_place};
 ghost use Rattle.delivery.specs.Delivery.{values_in};
 ghost use Rattle.confidences.specs.Confidences.{signs_of};
-ghost use Rattle.confidences.specs.Rounds.{IsBlock};
+ghost use Rattle.confidences.specs.Blocks.{IsBlock};
 ghost use Rattle.confidence_decoder.specs.Runs.{Accepts, place_told};
 
 use delivery::refusal_of;

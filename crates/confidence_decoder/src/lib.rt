@@ -1,5 +1,6 @@
 // The decoder for confidences: a second decoder beside the one for bits, in a lent area of numbers.
 #![tactic(auto)]
+
 ghost use Rattle.std.specs.Prelude.{length};
 ghost use Rattle.profiles.specs.Profiles.{profile_of};
 ghost use Rattle.tables.specs.Tables.{entry_of};

@@ -6,7 +6,7 @@ use Rattle.refusals.specs.declared.Decoded.{Decoded}
 use Rattle.rule.specs.Decoding.{Values, values, number_in}
 use Rattle.rule.specs.Calls.{values_of, decoded_place}
 use Rattle.confidences.specs.Confidences.{negated}
-use Rattle.confidences.specs.Rounds.{IsBlock, Nonzero}
+use Rattle.confidences.specs.Blocks.{IsBlock, Nonzero}
 
 -- "For such a block, adding a codeword means negating the values where it is 1"
 pub record DifferValues (m r : ℕ) (x x' : List ℤ) (c : List ℕ) : Type 0 where

@@ -7,7 +7,7 @@ use Rattle.words.specs.Word.{bit}
 use Rattle.area.specs.Area.{at}
 use Rattle.hadamard.specs.Correlation.{signed, constant_of}
 use Rattle.direction.specs.Direction.{coset_of}
-use Rattle.direction.specs.Members.{IsDirection}
+use Rattle.direction.specs.IsDirection.{IsDirection}
 use Rattle.confidences.specs.Confidences.{greatest, project_values}
 
 -- the values in the first n numbers

@@ -1,5 +1,6 @@
 // Correlations by the fast Hadamard transform.
 #![tactic(auto)]
+
 ghost use Rattle.std.specs.Prelude.{◌≡◌, List, ℕ, suc, ◌^◌, ℤ, length};
 ghost use Rattle.words.specs.Sum.{tabulate};
 ghost use Rattle.words.specs.Butterflies.{halved, Entries, Blocked, BlocksDone};

@@ -8,10 +8,10 @@ use mir.Syntax.{w32}
 use mir.Val.{to_z, of_z}
 use Rattle.words.specs.Word.{bit}
 use Rattle.area.specs.Area.{at, IsBit, word_of}
-use Rattle.area.specs.AreaLaws.{bit-word_of, is_bit, bit_back, xor_stored}
+use Rattle.area.proofs.AreaLaws.{bit-word_of, is_bit, bit_back, xor_stored}
 use Rattle.direction.specs.Direction.{project}
-use Rattle.direction.specs.Members.{Members}
-use Rattle.direction.specs.Projected.{bit-project, word_project}
+use Rattle.direction.proofs.Members.{Members}
+use Rattle.direction.proofs.Projected.{bit-project, word_project}
 use Rattle.cosets.specs.Votes.{Projects}
 
 module _ {m b : ℕ} {xs : List ℤ} (asks : Projects m b xs) {q p : ℕ} (t : Members m b q p) (ys : List ℤ) (same : (j : ℕ) → j < 2 ^ suc m → at ys j ≡ at xs j) where

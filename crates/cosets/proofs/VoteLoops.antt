@@ -5,18 +5,18 @@ use mathlib.Core.List.{List}
 use native.Mathlib.Nat.{add_comm, add-zero}
 use native.Mathlib.Omega.{arith}
 use lib.Bits.{bit_xor}
-use lib.ListN.{length, set}
+use lib.ListN.{length, length-set, set}
 use lib.IntN.{ℤ, pos, nat_abs, ◌+ℤ◌}
 use mir.Syntax.{w32}
 use mir.Val.{SFits, to_z, of_z}
 use Rattle.words.specs.Word.{bit}
 use Rattle.words.specs.Written.{Written, written_none, written_more}
 use Rattle.area.specs.Area.{at, word_of}
-use Rattle.area.specs.AreaLaws.{is_bit, xor_stored}
+use Rattle.area.proofs.AreaLaws.{is_bit, xor_stored}
 use Rattle.area.specs.Numbers.{stored, Half, sum_fits, sum_stored}
-use Rattle.direction.specs.Direction.{coset_of, project}
-use Rattle.direction.specs.Members.{Members, direction_lt, number_one, number_two}
-use Rattle.direction.specs.Projected.{word_project}
+use Rattle.direction.specs.Direction.{coset_of, highest, insert_zero, project}
+use Rattle.direction.proofs.Members.{Members, members, direction_lt, number_one, number_two}
+use Rattle.direction.proofs.Projected.{word_project}
 use Rattle.cosets.specs.SetBelow.{Blocks, SetBelow, apart_after, still, two_runs, pair_blocks, set_more}
 use Rattle.cosets.specs.Votes.{Projects, Tally, InProjection, cast_vote}
 use Rattle.cosets.proofs.Turns.{pair_sum}
@@ -33,6 +33,17 @@ pub record Turn (m b : ℕ) (xs : List ℤ) (n q p : ℕ) (ys : List ℤ) : Type
   pub size : n ≡ 2 ^ m
   pub coset : Members m b q p
   pub voted : VotedBelow m b xs q ys
+
+pub turn_of : {m b n h q p : ℕ} {xs ys : List ℤ} → Projects m b xs → Tally (2 ^ suc m) b xs → InProjection m xs → n ≡ 2 ^ m → h ≡ highest b
+    → p ≡ insert_zero h q → q < n → VotedBelow m b xs q ys → Turn m b xs n q p ys
+turn_of asks tally projection size top inserted less voted = record {
+  asks = asks;
+  tally = tally;
+  projection = projection;
+  size = size;
+  coset = members asks.direction (omega arith) top inserted;
+  voted = voted;
+}
 
 module _ {m b n q p : ℕ} {xs ys : List ℤ} (t : Turn m b xs n q p ys) where
   one_of : coset_of b p ≡ q
@@ -117,3 +128,6 @@ module _ {m b n q p : ℕ} {xs ys : List ℤ} (t : Turn m b xs n q p ys) where
       set_more blocks t.voted (two_runs (apart_after (2 * n) blocks.apart) first_set second_set) (start p) (start (bit_xor p b))
       (λ i hi. added_is p t.coset.place one_of (at ys (2 * n + p)) votes_one ∙ ap f (omega arith))
       (λ i hi. added_is (bit_xor p b) t.coset.partner two_of (at first (2 * n + bit_xor p b)) votes_two ∙ ap f (omega arith))
+
+  pub two_within : (z : ℤ) → 2 * n + bit_xor p b < length (set ys (2 * n + p) z)
+  two_within z = simp length-set (omega (arith, t.size, t.voted.long, t.asks.room, t.coset.partner))

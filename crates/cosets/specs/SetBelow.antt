@@ -6,7 +6,8 @@ use Rattle.std.specs.Int.Bits.{bit_xor}
 use Rattle.words.specs.Written.{Written}
 use Rattle.area.specs.Area.{at}
 use Rattle.direction.specs.Direction.{coset_of}
-use Rattle.direction.specs.Members.{IsDirection, Members, partner_apart, number_lt, number_one, number_two, only_members}
+use Rattle.direction.specs.IsDirection.{IsDirection}
+use Rattle.direction.proofs.Members.{Members, partner_apart, number_lt, number_one, number_two, only_members}
 
 -- ---- two runs of entries, written one after the other
 

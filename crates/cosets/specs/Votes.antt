@@ -4,7 +4,7 @@ use Rattle.std.specs.Prelude.{ℕ, suc, ◌+◌, ◌*◌, ◌%◌, ◌^◌, ◌�
 use Rattle.words.specs.Word.{bit}
 use Rattle.area.specs.Area.{at, IsBit, Bits, word_of}
 use Rattle.direction.specs.Direction.{project, coset_of}
-use Rattle.direction.specs.Members.{IsDirection}
+use Rattle.direction.specs.IsDirection.{IsDirection}
 
 -- what direction b asks of the area
 pub record Projects (m b : ℕ) (xs : List ℤ) : Type 0 where

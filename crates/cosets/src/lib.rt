@@ -1,6 +1,7 @@
 // Projection and votes in the area, coset by coset.
 // The loops test q != n: of q < n, n a power of 2, the compiler makes a shift in every turn.
 #![tactic(auto)]
+
 ghost use Rattle.std.specs.Prelude.{suc, ◌+◌, ◌*◌, ◌^◌, pos, ◌+ℤ◌};
 ghost use Rattle.words.specs.Word.{bit};
 ghost use Rattle.words.specs.Written.{Written};

@@ -1,3 +1,2 @@
 -- Definitions: Crew. CrewLaws has the laws.
 pub mod Crew
-pub mod CrewLaws

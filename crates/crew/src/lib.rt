@@ -1,5 +1,6 @@
 // The crew's lines. The functions are handed the decoder's answer, and neither word nor message.
 #![tactic(auto)]
+
 ghost use Rattle.std.specs.Prelude.{◌+◌, ◌≤◌, ◌++◌, length};
 ghost use Rattle.rule.specs.Calls.{values_of};
 ghost use Rattle.rule.specs.Decoding.{values};

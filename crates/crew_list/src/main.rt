@@ -1,7 +1,11 @@
 // The crew's listing.
 #![tactic(auto)]
-use readers::Reader;
 
-fn main() {
-    programs::run(Reader::Crew);
+use readers::Reader;
+use turns::Stream;
+
+fn main(rt: HostRuntime) {
+    let mut from = Stream::new(rt.stdin());
+    let mut to = Stream::new(rt.stdout());
+    programs::run(Reader::Crew, &mut from, &mut to);
 }

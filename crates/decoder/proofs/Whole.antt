@@ -10,9 +10,9 @@ use borrow.Author.Tests.{eqb-true, leb-true, le-leb}
 use Rattle.words.specs.Word.{bit}
 use Rattle.words.specs.Written.{Written}
 use Rattle.area.specs.Area.{at, Front, word_of}
-use Rattle.area.specs.AreaLaws.{front_bits, front_word, word_of_same}
-use Rattle.refusals.specs.CheckLaws.{all_kept, code_passed, first_kept, next, number_pos, other_place, passed, rest_passes}
-use Rattle.refusals.specs.Refusals.{Check, check, Checked, answer_number, answer_place, code_checks, first_refusal, number_of}
+use Rattle.area.proofs.AreaLaws.{front_bits, front_word, word_of_same}
+use Rattle.refusals.proofs.CheckLaws.{all_kept, code_passed, first_kept, next, number_pos, other_place, passed, rest_passes}
+use Rattle.refusals.specs.Refusals.{Check, Checked, answer_number, answer_place, code_checks, first_refusal, number_of}
 use Rattle.refusals.specs.declared.Refusal.{Refusal}
 use Rattle.refusals.specs.declared.Answer.{Answer}
 use Rattle.refusals.specs.declared.Answer.TheVariants.{Done, Refused as Refuses}
@@ -23,12 +23,12 @@ use Rattle.profiles.specs.Profiles.{profile_of}
 use Rattle.hadamard.specs.Correlation.{values as signs}
 use Rattle.rule.specs.Reading.{Outcome, accepted, refused, order1, reading}
 use Rattle.rule.specs.Decoding.{after, buffer_checks, limit_checks, limited, profile_checks, values, refusal_of, output_of, zeros}
-use Rattle.rule.specs.DecodingLaws.{after_cases, buffers_passed, limited_cases, limited_within}
-use Rattle.rule.specs.ProfileLaws.{profile_code, profile_passes}
+use Rattle.rule.proofs.DecodingLaws.{after_cases, buffers_passed, limited_cases, limited_within}
+use Rattle.rule.proofs.ProfileLaws.{profile_code, profile_passes}
 use Rattle.rule.specs.Calls.{Decodes, decoded_place, values_of}
-use Rattle.rule.specs.Covariance.{reading_in}
-use Rattle.rule.specs.Outcomes.{CodewordIn}
-use Rattle.rule.specs.Counts.{leaf_leaves, reading_leaf}
+use Rattle.rule.proofs.Covariance.{reading_in}
+use Rattle.rule.proofs.Outcomes.{CodewordIn}
+use Rattle.rule.proofs.Counts.{leaf_leaves, reading_leaf}
 use Rattle.told.specs.Told.{numbers_of, numbers_in, Holds, Kept, Read}
 use Rattle.told.specs.declared.Told.{Told}
 use Rattle.told.specs.ToldLaws.{noise_number_lem}

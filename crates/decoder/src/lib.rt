@@ -1,5 +1,6 @@
 // The decoder: readings by projection and vote, in a lent area of numbers.
 #![tactic(auto)]
+
 ghost use Rattle.std.specs.Prelude.{length};
 ghost use Rattle.profiles.specs.Profiles.{profile_of};
 ghost use Rattle.rule.specs.Decoding.{decode_call, decode_profile_call};

@@ -2,7 +2,7 @@
 use Rattle.std.specs.Prelude.{ℕ, ◌≤◌, ◌≡◌, refl, List, length, ℤ}
 use Rattle.std.proofs.Common.{sym, subst, arith}
 use Rattle.area.specs.Area.{Front}
-use Rattle.area.specs.AreaLaws.{front_bits, front_word}
+use Rattle.area.proofs.AreaLaws.{front_bits, front_word}
 use Rattle.rule.specs.Reading.{Outcome}
 use Rattle.rule.specs.Decoding.{answer_of, area_of, output_of, zeros}
 use Rattle.told.specs.Told.{Holds, Read, numbers_in, numbers_of}

@@ -1,5 +1,6 @@
 // What a reading tells, handed to the caller: the decoded word to the output, and the refusal.
 #![tactic(auto)]
+
 ghost use Rattle.std.specs.Prelude.{◌≡◌, length};
 ghost use Rattle.refusals.specs.Refusals.{number_of, place_of};
 ghost use Rattle.told.specs.Told.{noise_number};

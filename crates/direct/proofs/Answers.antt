@@ -11,7 +11,7 @@ use Rattle.words.specs.Ones.{affine_bit}
 use Rattle.words.specs.Sum.{tabulate}
 use Rattle.words.specs.Word.{IsWord}
 use Rattle.area.specs.Area.{IsBit}
-use Rattle.area.specs.AreaLaws.{bit_back}
+use Rattle.area.proofs.AreaLaws.{bit_back}
 use Rattle.area.specs.Numbers.{stored}
 use Rattle.hadamard.specs.Correlation.{values, correlation, affine}
 use Rattle.peaks.specs.declared.Peak.{Peak}
@@ -20,9 +20,9 @@ use Rattle.peaks.specs.Found.{peak_below}
 use Rattle.byte_quads.specs.ByteQuads.{quad_at}
 use Rattle.blocks.specs.Blocks.{Block}
 use Rattle.code.specs.Code.{codeword_test}
-use Rattle.code.specs.Codewords.{codeword_of_test}
+use Rattle.code.proofs.Codewords.{codeword_of_test}
 use Rattle.rule.specs.Reading.{order1}
-use Rattle.rule.specs.Nearest.{order1_codeword}
+use Rattle.rule.proofs.Nearest.{order1_codeword}
 use Rattle.told.specs.Told.{numbers_in}
 use Rattle.told.specs.ToldLaws.{changed_kept}
 use Rattle.told.specs.declared.Told.{Told}

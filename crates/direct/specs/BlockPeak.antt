@@ -14,7 +14,7 @@ use Rattle.peaks.specs.SamePeak.{peak_ext}
 use Rattle.quads.specs.QuadLaws.{correlation-quad, Numbers, numbers}
 use Rattle.byte_quads.specs.ByteQuads.{quad_at}
 use Rattle.order_one.specs.OrderOne.{PeakOf}
-use Rattle.hadamard.specs.LowDigits.{by_digits, correlation_digits}
+use Rattle.hadamard.specs.LowDigits.{correlation_digits}
 use Rattle.hadamard.specs.Spread.{correlations_spread}
 use Rattle.block_peak.specs.Sought.{value_at, Sought}
 

@@ -1,5 +1,6 @@
 // A block of order 1 read from its bytes to the output's: only the correlations go through the area.
 #![tactic(auto)]
+
 ghost use Rattle.std.specs.Prelude.{◌≡◌};
 ghost use Rattle.hadamard.specs.Correlation.{values};
 ghost use Rattle.rule.specs.Reading.{order1};

@@ -1,5 +1,6 @@
 // Directions: the highest one, and the number with a 0 inserted.
 #![tactic(auto)]
+
 ghost use Rattle.std.specs.Prelude.{◌≡◌, ◌*◌, ◌≤◌, ◌<◌};
 ghost use Rattle.direction.specs.Direction.{highest, insert_zero};
 

@@ -2,7 +2,7 @@
 use Rattle.std.specs.Prelude.{ℕ, ◌≡◌, List}
 use Rattle.profiles.specs.declared.Profile.{Profile}
 use Rattle.tables.specs.Limits.{InLimits}
-use Rattle.rule.specs.DecodingLaws.{RightSizes}
+use Rattle.rule.specs.RightSizes.{RightSizes}
 use Rattle.text.specs.Texts.{Appended}
 use Rattle.lines.specs.Lines.{Entry, entry}
 use Rattle.entries.specs.declared.records.Line.{Line}

@@ -6,18 +6,18 @@ use Rattle.words.specs.Word.{IsWord}
 use Rattle.refusals.specs.declared.Decoded.{Decoded}
 use Rattle.refusals.specs.declared.Decoded.TheVariants as decoder
 use Rattle.refusals.specs.Refusals.{first_refusal}
-use Rattle.refusals.specs.CheckLaws.{IsCode}
+use Rattle.refusals.specs.IsCode.{IsCode}
 use Rattle.code.specs.Code.{dimension}
 use Rattle.codec_checks.specs.Checks.{read_checks}
 use Rattle.profiles.specs.declared.Profile.{Profile}
 use Rattle.tables.specs.Limits.{InLimits}
 use Rattle.rule.specs.Reading.{Outcome, accepted, refused}
 use Rattle.rule.specs.Decoding.{answer_of, area_of, decode_call, output_of, zeros}
-use Rattle.rule.specs.DecodingLaws.{call_is}
-use Rattle.rule.specs.Demand3.{Sound, decode_sound}
+use Rattle.rule.proofs.DecodingLaws.{call_is}
+use Rattle.rule.proofs.Demand3.{Sound, decode_sound}
 use Rattle.rule.specs.Calls.{Decodes}
 use Rattle.lines.specs.Lines.{Lines, accepted_by, accepted_in, decoded_by, record_entry}
-use Rattle.code.specs.Dimension.{dimension_most}
+use Rattle.code.proofs.Dimension.{dimension_most}
 use Rattle.billing.specs.MessageLines.{codeword_passes}
 use Rattle.table_decoder.specs.TableLaws.{entry_area}
 use Rattle.billing.specs.Accepted.{Answered}

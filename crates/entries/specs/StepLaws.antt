@@ -5,7 +5,7 @@ use Rattle.std.proofs.Common.{arith, sym, ap, ◌∙◌, append-nil, eqb-true}
 use Rattle.std.proofs.lemmas.Bool.{false≢true}
 use Rattle.std.proofs.Math.Seq.{take-length}
 use Rattle.words.specs.Word.{IsWord}
-use Rattle.words.specs.WordLaws.{word_tabulate}
+use Rattle.words.proofs.WordLaws.{word_tabulate}
 use Rattle.profiles.specs.declared.Profile.{Profile}
 use Rattle.tables.specs.declared.Table.{Table}
 use Rattle.tables.specs.declared.Slot.{Slot}

@@ -1,5 +1,6 @@
 // The reader's line of what stands at the start of a part of a capture.
 #![tactic(auto)]
+
 ghost use Rattle.std.specs.Prelude.{◌≡◌, ◌+◌, ◌*◌, ◌≤◌, length};
 ghost use Rattle.capture.specs.Capture.{body_length};
 ghost use Rattle.tables.specs.Slots.{Proper};

@@ -1,5 +1,6 @@
 // How a round ends: the flips, and the answer for a word that no round changes.
 #![tactic(auto)]
+
 ghost use Rattle.std.specs.Prelude.{true, cond, ◌≡◌, ℕ, ◌+◌, ◌*◌, ◌%◌, ◌^◌, ◌≤◌, ◌<◌, length, eqb, pos};
 ghost use Rattle.words.specs.Sum.{all_below};
 ghost use Rattle.words.specs.Word.{bit};

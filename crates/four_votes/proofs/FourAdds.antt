@@ -13,7 +13,7 @@ use mir.Val.{Fits, SFits}
 use Rattle.words.specs.Written.{Written}
 use Rattle.words.specs.Xor.{xor_twice}
 use Rattle.area.specs.Area.{at, four_of}
-use Rattle.area.specs.AreaLaws.{by_four}
+use Rattle.area.proofs.AreaLaws.{by_four}
 use Rattle.area.specs.Numbers.{stored, sum_fits, sum_stored}
 use Rattle.four_votes.specs.FourVotes.{Addends}
 use Rattle.projections.specs.FourLaws.{four_lt, four_apart}

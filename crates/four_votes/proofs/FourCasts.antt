@@ -13,7 +13,7 @@ use borrow.Rule.Slice.PartMut.{put_mid}
 use Rattle.words.specs.Written.{Written, written_none, written_to, written_as}
 use Rattle.words.specs.Parts.{written_part}
 use Rattle.area.specs.Area.{at, IsBit, four_of}
-use Rattle.area.specs.AreaLaws.{bit_back, by_four}
+use Rattle.area.proofs.AreaLaws.{bit_back, by_four}
 use Rattle.area.specs.Numbers.{stored, Half}
 use Rattle.area.specs.Places.{Places, index_fits, places}
 use Rattle.cosets.specs.SetBelow.{Apart, apart_after, still, two_runs}

@@ -1,5 +1,6 @@
 // The votes of a block of 4 cosets: the low digits l of the direction only exchange the places of a block.
 #![tactic(auto)]
+
 ghost use Rattle.std.specs.Prelude.{◌≡◌, ◌<◌, length, pos, ◌+ℤ◌};
 ghost use Rattle.std.specs.Int.Bits.{bit_xor};
 ghost use Rattle.words.specs.Written.{Written};

@@ -11,7 +11,7 @@ use Rattle.hadamard.specs.Summable.{Summable}
 use Rattle.peaks.specs.Joined.{joined_whole}
 use Rattle.peaks.specs.Packing.{correlation_size}
 use Rattle.peaks.specs.Peaks.{pairs_joined}
-use Rattle.refusals.specs.CheckLaws.{bits_tested, number_pos, passed}
+use Rattle.refusals.proofs.CheckLaws.{bits_tested, number_pos, passed}
 use Rattle.refusals.specs.Refusals.{Checked, answer_number, answer_place, code_checks, first_refusal, number_of, place_named, place_of}
 use Rattle.refusals.specs.declared.Answer.{Answer}
 use Rattle.refusals.specs.declared.Refusal.{Refusal}

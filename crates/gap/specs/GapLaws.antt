@@ -5,14 +5,14 @@ use Rattle.std.proofs.Math.Decide.{ℕ_discrete}
 use Rattle.std.specs.Int.Bits.{bit_xor}
 use Rattle.std.proofs.lemmas.Nat.{xor_lt}
 use Rattle.code.specs.Code.{IsCodeword}
-use Rattle.code.specs.Distance.{distance_self, triangle}
+use Rattle.code.proofs.Distance.{distance_self, triangle}
 use Rattle.hadamard.specs.AffineWords.{IsAffine, affine_codeword, codeword_affine}
 use Rattle.hadamard.specs.Correlation.{affine, constant_of, correlation, first_below, values}
 use Rattle.hadamard.specs.CorrelationLaws.{correlation_add, far_distance, nat_abs-signed, near_distance}
 use Rattle.hadamard.specs.Peak.{peak}
 use Rattle.hadamard.specs.Spread.{correlations_spread}
-use Rattle.rule.specs.Nearest.{Nearest, nearest_accepted, order1_judged}
-use Rattle.rule.specs.Order1.{alone_pos, candidate, order1_alone, order1_shared, sizes}
+use Rattle.rule.proofs.Nearest.{Nearest, nearest_accepted, order1_judged}
+use Rattle.rule.proofs.Order1.{alone_pos, candidate, order1_alone, order1_shared, sizes}
 use Rattle.rule.specs.Reading.{Outcome, accepted, order1, reading, refused}
 use Rattle.words.specs.Sum.{greatest_below}
 use Rattle.words.specs.Word.{IsWord, add_words, distance}

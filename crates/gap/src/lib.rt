@@ -1,5 +1,6 @@
 // How far a block of order 1 is from another answer: the gap between the greatest and the second absolute correlation.
 #![tactic(auto)]
+
 ghost use Rattle.std.specs.Prelude.{true, ◌≡◌, ◌≤◌, length, pos};
 ghost use Rattle.words.specs.Word.{IsWord, bit};
 ghost use Rattle.words.specs.Written.{Written};

@@ -5,20 +5,20 @@ use Rattle.std.proofs.Common.{◌∙◌, ⊎_elim, pow_mono, eqb-true, ltb-true,
 use mathlib.Core.List.{List, [], ◌∷◌, ◌++◌}
 use native.Mathlib.Omega.{arith}
 use Rattle.std.proofs.lemmas.Bool.{eqb-false, not-true}
-use Rattle.words.specs.Search.{lowest_within}
+use Rattle.words.proofs.Search.{lowest_within}
 use Rattle.words.specs.SumLaws.{both_true, sum_most, le_or_lt}
 use Rattle.words.specs.Word.{differs, distance}
-use Rattle.refusals.specs.CheckLaws.{bad_place, code_passed, other_place, passed, passes}
+use Rattle.refusals.proofs.CheckLaws.{bad_place, code_passed, other_place, passed, passes}
 use Rattle.refusals.specs.Refusals.{Check, byte_checks, check, code_checks, first_refusal, place_named}
 use Rattle.code.specs.Code.{dimension}
-use Rattle.code.specs.Dimension.{dimension_most}
+use Rattle.code.proofs.Dimension.{dimension_most}
 use Rattle.codec_checks.specs.Checks.{encode_checks, read_checks}
 use Rattle.profiles.specs.declared.Profile.{Profile}
 use Rattle.profiles.specs.Profiles.{profile_of}
-use Rattle.rule.specs.Counts.{Leaf, ByNoise, Rounds, reading_leaf, reading_noise, reading_rounds}
+use Rattle.rule.proofs.Counts.{Leaf, ByNoise, Rounds, reading_leaf, reading_noise, reading_rounds}
 use Rattle.rule.specs.Decoding.{Values, values, answer_of, buffer_checks, decode_profile_call, limited, profile_checks, refusal_of}
-use Rattle.rule.specs.DecodingLaws.{after_cases}
-use Rattle.rule.specs.ProfileLaws.{number_passed, profile_leaves, profile_limited}
+use Rattle.rule.proofs.DecodingLaws.{after_cases}
+use Rattle.rule.proofs.ProfileLaws.{number_passed, profile_leaves, profile_limited}
 use Rattle.rule.specs.Reading.{Outcome, accepted, leaves_of, reading, refused}
 use Rattle.packing.specs.Packing.{pack, pack_values}
 use Rattle.gateway.specs.Gateway.{AllFit, Fits, own_answer, own_call, place_in, values_in}

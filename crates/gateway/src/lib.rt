@@ -1,6 +1,7 @@
 // The layer for the gateway whose receive loop is C: the core's calls on numbers and byte slices, with working numbers of its own, each answer
 // packed in 64 bits.
 #![tactic(auto)]
+
 ghost use Rattle.std.specs.Prelude.{length};
 ghost use Rattle.code.specs.Code.{codeword, message_of};
 ghost use Rattle.codec_checks.specs.Checks.{encode_checks, read_checks};

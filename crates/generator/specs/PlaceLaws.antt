@@ -10,7 +10,7 @@ use Rattle.std.proofs.Math.ListN.{length, get_or-eq_default}
 use Rattle.words.specs.Sum.{sum_below, tabulate, total}
 use Rattle.words.specs.SumLaws.{length-tabulate, bit_tabulate, sum_ext, sum_most, sum_zero}
 use Rattle.words.specs.Word.{IsWord, bit}
-use Rattle.words.specs.WordLaws.{word_tabulate}
+use Rattle.words.proofs.WordLaws.{word_tabulate}
 use Rattle.generator.specs.declared.Places.{Places}
 use Rattle.generator.specs.Generator.{Drawn, draw, draw_times, draw_until, places_from, step, wrong_in}
 use Rattle.generator.specs.Drawing.{Placed, held}

@@ -1,5 +1,6 @@
 // The generator of a load: states, messages, wrong places.
 #![tactic(auto)]
+
 ghost use Rattle.std.specs.Prelude.{◌≡◌, ◌^◌, ◌≤◌, ◌<◌, length};
 ghost use Rattle.words.specs.Sum.{tabulate};
 ghost use Rattle.generator.specs.Generator;

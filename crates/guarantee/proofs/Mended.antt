@@ -5,7 +5,7 @@ use mathlib.Core.List.{List}
 use native.Mathlib.Omega.{arith}
 use lib.IntN.{ℤ}
 use lib.ListN.{length}
-use Rattle.refusals.specs.CheckLaws.{number_pos}
+use Rattle.refusals.proofs.CheckLaws.{number_pos}
 use Rattle.refusals.specs.Refusals.{number_of}
 use Rattle.refusals.specs.declared.Decoded.{Decoded}
 use Rattle.refusals.specs.declared.Decoded.TheVariants.{Accepted, Refused}
@@ -16,7 +16,7 @@ use Rattle.rule.specs.Calls.{Decodes, values_of}
 use Rattle.alike.specs.Alike.{Fit}
 use Rattle.alike.specs.AlikeLaws.{sizes}
 use Rattle.guarantee.specs.Guarantee.{Limits, Mended, Mends, Received, enough}
-use Rattle.guarantee.specs.GuaranteeLaws.{guarantee_outcome, guarantee_profile_outcome}
+use Rattle.guarantee.proofs.GuaranteeLaws.{guarantee_outcome, guarantee_profile_outcome}
 
 -- only an accepted answer has the values of one
 said : (d : Decoded) {k l n : ℕ} → values_of d ≡ values 0 k l n → d ≡ Accepted k l n

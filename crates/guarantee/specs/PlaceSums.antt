@@ -5,9 +5,9 @@ use Rattle.std.proofs.Math.Arith.{le-zero, lt-one}
 use Rattle.std.specs.Int.Bits.{bit_xor}
 use Rattle.std.proofs.lemmas.Nat.{xor_comm}
 use Rattle.direction.specs.Direction.{highest, insert_zero, project}
-use Rattle.direction.specs.Insert.{Top, highest_top, insert_low, insert_lt, insert_top, top_le}
-use Rattle.direction.specs.Projected.{bit-project}
-use Rattle.direction.specs.Projection.{projected}
+use Rattle.direction.proofs.Insert.{Top, highest_top, insert_low, insert_lt, insert_top, top_le}
+use Rattle.direction.proofs.Projected.{bit-project}
+use Rattle.direction.proofs.Projection.{projected}
 use Rattle.words.specs.Sum.{sum_below, total}
 use Rattle.words.specs.SumLaws.{sum_ext, sum_halves, sum_le, sum_plus}
 use Rattle.words.specs.TopBit.{by_top, xor_low_top, xor_top_low, xor_top_top}

@@ -1,5 +1,6 @@
 // A call of the decoder, and what it surely mends: document 02, request 6.
 #![tactic(auto)]
+
 ghost use Rattle.std.specs.Prelude.{ℕ, ◌≤◌, List};
 ghost use Rattle.alike.specs.Alike.{Fit};
 ghost use Rattle.profiles.specs.Profiles.{profile_of};

@@ -10,11 +10,11 @@ use Rattle.words.specs.SumLaws.{bit_tabulate, tabulate_ext}
 use Rattle.words.specs.TopBit.{by_top, and_top_top, ones_top, ones-zero}
 use Rattle.words.specs.Xor.{and-xor, ones-xor, xor_twice}
 use Rattle.words.specs.Word.{IsWord, add_words, bit}
-use Rattle.words.specs.WordLaws.{unmod, word_add, word_bit, word_ext, word_tabulate}
+use Rattle.words.proofs.WordLaws.{unmod, word_add, word_bit, word_ext, word_tabulate}
 use Rattle.code.specs.Code.{IsCodeword}
 use Rattle.code.specs.Degree.{low_parity}
 use Rattle.code.specs.Affine.{constant_of_low, line, line_of_low, low_constant, low_line}
-use Rattle.code.specs.Codewords.{codeword_of_low, low_of_codeword}
+use Rattle.code.proofs.Codewords.{codeword_of_low, low_of_codeword}
 use Rattle.hadamard.specs.Correlation.{affine}
 
 -- ---- order 1

@@ -13,7 +13,7 @@ use Rattle.words.specs.Sum.{sum_below, sum_below_ℤ, total}
 use Rattle.words.specs.SumLaws.{sum_ext, sum_ℤ_ext, sum_ℤ_neg}
 use Rattle.words.specs.TopBit.{ones-zero}
 use Rattle.words.specs.Word.{IsWord, add_words, bit, distance}
-use Rattle.words.specs.WordLaws.{word_add, word_bit}
+use Rattle.words.proofs.WordLaws.{word_add, word_bit}
 use Rattle.hadamard.specs.Correlation.{affine, constant_of, correlation, sign, signed, values}
 use Rattle.hadamard.specs.AffineWords.{bit-affine, parity_xor, word_affine}
 

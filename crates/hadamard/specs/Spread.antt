@@ -3,7 +3,7 @@ use Rattle.std.specs.Prelude.{ℕ, zero, suc, ◌+◌, ◌-◌, ◌*◌, ◌^◌
 use Rattle.std.proofs.Common.{sym, ap, ◌∙◌, arith}
 use Rattle.std.proofs.Math.Arith.{lt-one}
 use Rattle.words.specs.Word.{IsWord, distance}
-use Rattle.code.specs.Distance.{code_distance, triangle}
+use Rattle.code.proofs.Distance.{code_distance, triangle}
 use Rattle.hadamard.specs.Correlation.{affine, constant_of, correlation, values}
 use Rattle.hadamard.specs.AffineWords.{affine_codeword, affine_mask}
 use Rattle.hadamard.specs.CorrelationLaws.{near_distance}

@@ -1,5 +1,6 @@
 // A level of the fast Hadamard transform.
 #![tactic(auto)]
+
 ghost use Rattle.std.specs.Prelude.{◌≡◌, ◌+◌, length};
 ghost use Rattle.words.specs.Butterflies.{butterflies, halved, Entries, Blocked, BlocksDone};
 ghost use Rattle.hadamard.specs.Transform.{sums};

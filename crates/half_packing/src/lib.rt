@@ -1,5 +1,6 @@
 // The signs of a word's halves, packed two to a number.
 #![tactic(auto)]
+
 ghost use Rattle.std.specs.Prelude.{◌≡◌, ◌+◌, ◌*◌, ◌≤◌, length, pos};
 ghost use Rattle.words.specs.Written.{Written};
 ghost use Rattle.area.specs.Area.{Bits};

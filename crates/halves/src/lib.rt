@@ -1,6 +1,7 @@
 // The greatest correlation of a word by its halves, which are packed two to a number and transformed together: the last level of the
 // transform is not made.
 #![tactic(auto)]
+
 ghost use Rattle.std.specs.Prelude.{◌≡◌, ◌+◌, ◌<◌, pos, nat_abs};
 ghost use Rattle.words.specs.Written.{Written};
 ghost use Rattle.area.specs.Area.{at};

@@ -3,15 +3,15 @@ use Rattle.std.specs.Prelude.{ℕ, suc, ◌+◌, ◌-◌, ◌^◌, ◌≤◌, �
 use Rattle.std.proofs.Common.{sym, ap, ap₂, subst, ◌∙◌, arith, drop_at, take_all, take_at}
 use Rattle.std.proofs.lemmas.Bool.{false≢true}
 use borrow.Rule.Slice.PartMut.{put_mid, take_put}
-use Rattle.code.specs.Halves.{bit_first, bit_sum, word_first, word_sum}
-use Rattle.code.specs.TestStepLaws.{steps_full, steps_halves, steps_zero}
+use Rattle.code.proofs.Halves.{bit_first, bit_sum, word_first, word_sum}
+use Rattle.code.proofs.TestStepLaws.{steps_full, steps_halves, steps_zero}
 use Rattle.code.specs.TestSteps.{all_equal, first_half, steps_test, sum_halves}
 use Rattle.coefficients.specs.TransformLaws.{parities, sum_bit}
 use Rattle.words.specs.Butterflies.{Entries, butterflies}
 use Rattle.words.specs.ButterflyLaws.{length-butterflies}
 use Rattle.words.specs.SumLaws.{bit_tabulate}
 use Rattle.words.specs.Word.{IsWord, bit}
-use Rattle.words.specs.WordLaws.{word_ext, word_tabulate}
+use Rattle.words.proofs.WordLaws.{word_ext, word_tabulate}
 
 -- ---- where the code calls itself no more
 

@@ -1,5 +1,6 @@
 // The codeword test in source 000's order, on halves of the word.
 #![tactic(auto)]
+
 ghost use Rattle.std.specs.Prelude.{◌≡◌, ◌^◌, ◌≤◌, ◌<◌, length};
 ghost use Rattle.words.specs.Word.{IsWord};
 ghost use Rattle.code.specs.TestSteps.{all_equal, steps_test};

@@ -1,5 +1,6 @@
 // The calls of the core for C and Rust, each answer packed in 64 bits.
 #![tactic(auto)]
+
 ghost use Rattle.std.specs.Prelude.{◌≡◌, length};
 ghost use Rattle.code.specs.Code.{codeword, codeword_test, message_of};
 ghost use Rattle.codec_checks.specs.Checks.{encode_checks, read_checks, test_checks};

@@ -1,5 +1,6 @@
 // The header of a capture: the mark and the version.
 #![tactic(auto)]
+
 ghost use Rattle.std.specs.Prelude.{◌≡◌, length};
 ghost use Rattle.header.specs.Header;
 ghost use Rattle.header.specs.Header.{header_test};

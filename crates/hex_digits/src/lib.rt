@@ -1,5 +1,6 @@
 // Messages in hexadecimal.
 #![tactic(auto)]
+
 ghost use Rattle.std.specs.Prelude.{◌≡◌, ◌+◌, ◌*◌, ◌/◌, ◌≤◌, ◌<◌, length};
 ghost use Rattle.words.specs.Word.{bit};
 ghost use Rattle.text.specs.Numbers.{hex_digit, nibble, hex_of};

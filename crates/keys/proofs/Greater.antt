@@ -1,6 +1,7 @@
 -- Keys in 32 signed bits, and the greater of two. Assumes nothing.
 use Prim.Native.Nat.{ℕ, ◌+◌, ◌*◌, ◌^◌, ◌≤◌, ◌<◌, max}
 use mathlib.Core.Path.{◌≡◌, sym, ap, ap₂, ◌∙◌}
+use mathlib.Core.List.{List}
 use mathlib.Core.Bool.{true, false}
 use native.Mathlib.Omega.{arith}
 use lib.Dec.{ltb}
@@ -10,10 +11,15 @@ use borrow.Author.Tests.{ltb-true, ltb-false}
 use mir.Syntax.{w32}
 use mir.Val.{to_z, of_z}
 use mir.Facts.{to_z_pos}
+use Rattle.area.specs.Area.{at}
 use Rattle.area.specs.Numbers.{stored}
 use Rattle.quads.specs.Quads.{sum_size, difference_size, Bounded}
 use Rattle.keys.specs.Keys.{key_of}
 use Rattle.keys.proofs.Sizes.{quad_held, sum_most, difference_most}
+
+-- the key of the quad at i
+abbrev pub key_at : List ℤ → ℕ → ℕ
+key_at xs i = key_of (at xs i) (4 * i)
 
 -- a test of two numbers
 module _ (a b : ℕ) (ha : a < 2 ^ 31) (hb : b < 2 ^ 31) where

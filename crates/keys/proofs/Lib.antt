@@ -2,3 +2,4 @@
 mod Digits
 mod Sizes
 mod Greater
+mod Hits

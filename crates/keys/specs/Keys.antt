@@ -4,7 +4,7 @@ use Rattle.std.specs.Prelude.{ℕ, ◌+◌, ◌-◌, ◌*◌, ◌/◌, ◌%◌, 
 use Rattle.words.specs.Sum.{greatest_below, sum_below}
 use Rattle.words.specs.Word.{indicator}
 use Rattle.area.specs.Area.{at}
-use Rattle.quads.specs.Quads.{number_of, first_sum, last_sum, first_difference, last_difference, sum_size, difference_size, Bounded}
+use Rattle.quads.specs.Quads.{first_sum, last_sum, first_difference, last_difference, sum_size, difference_size, Bounded}
 
 -- some quads of numbers from -32 to 32
 pub record BoundedAll (xs : List ℤ) : Type 0 where

@@ -1,6 +1,7 @@
 // The greatest size of some quads, with the mask it stands for, and how often it occurs. A quad's two sizes are made at once, its numbers
 // side by side in 8 bits each.
 #![tactic(auto)]
+
 ghost use Rattle.std.specs.Prelude.{◌≡◌, ◌/◌, ◌%◌, ◌^◌, ◌≤◌, ◌<◌, pos};
 ghost use Rattle.quads.specs.Quads.{sum_size, difference_size, Bounded};
 ghost use Rattle.keys.specs.Keys.{BoundedAll, pairs, offs, key_of, greatest_key, count_of};

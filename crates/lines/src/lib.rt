@@ -1,5 +1,6 @@
 // The lines of the meter listing, put after what a buffer holds already.
 #![tactic(auto)]
+
 ghost use Rattle.std.specs.Prelude.{◌≡◌, ◌+◌, ◌≤◌, length};
 ghost use Rattle.text.specs.Texts.{Appended};
 ghost use Rattle.lines.specs.Lines.{accepted_by, billing, cut_line, refusal_text, refused_line};

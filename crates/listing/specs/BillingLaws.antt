@@ -4,7 +4,7 @@ use Rattle.std.proofs.Common.{sym, ap, ap₂, ◌∙◌, arith, le-leb, le-ltb, 
 use Rattle.std.proofs.lemmas.Bool.{false≢true}
 use Rattle.std.proofs.Math.Decide.{dec_le}
 use Rattle.profiles.specs.Profiles.{profile_of}
-use Rattle.refusals.specs.CheckLaws.{no_more, passes}
+use Rattle.refusals.proofs.CheckLaws.{no_more, passes}
 use Rattle.refusals.specs.Refusals.{Check, code_checks, first_refusal}
 use Rattle.tables.specs.declared.Slot.{Slot}
 use Rattle.tables.specs.Tables as tables
@@ -12,7 +12,7 @@ use Rattle.tables.specs.Tables.{ours, some}
 use Rattle.tables.specs.Slots.{ours-none, ours_there}
 use Rattle.rule.specs.Reading.{Outcome, accepted, refused}
 use Rattle.rule.specs.Decoding.{after, decode_of, decode_profile_of, limit_checks, profile_checks}
-use Rattle.rule.specs.ProfileLaws.{profile_passes}
+use Rattle.rule.proofs.ProfileLaws.{profile_passes}
 use Rattle.capture.specs.Capture as capture
 use Rattle.capture.specs.Capture.{Answer, none_left, profile_at, record_at, record_in, slot_at, unpacked, word_size}
 use Rattle.lines.specs.Lines.{Entry, accepted_in, billing, billing_line, decoded_by, entry, record_entry}

@@ -1,5 +1,6 @@
 // A reader's listing, a part of a capture at a time, under a table.
 #![tactic(auto)]
+
 ghost use Rattle.std.specs.Prelude.{◌≤◌, length};
 ghost use Rattle.pieces.specs.Pieces.{Lists, Turn};
 ghost use Rattle.readers.specs.Readers.{lines_for};

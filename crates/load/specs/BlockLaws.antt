@@ -5,10 +5,10 @@ use Rattle.std.specs.Int.Bits.{bit_xor}
 use Rattle.words.specs.Sum.{tabulate}
 use Rattle.words.specs.SumLaws.{tabulate_ext, tabulate-get_or}
 use Rattle.words.specs.Word.{IsWord, add_words, bit}
-use Rattle.words.specs.WordLaws.{word_add, word_bit}
+use Rattle.words.proofs.WordLaws.{word_add, word_bit}
 use Rattle.words.specs.Xor.{xor_bits}
 use Rattle.code.specs.Code.{dimension}
-use Rattle.refusals.specs.CheckLaws.{IsCode}
+use Rattle.refusals.specs.IsCode.{IsCode}
 use Rattle.refusals.specs.declared.Answer.{Answer}
 use Rattle.codec_checks.specs.Passed.{encode_passes}
 use Rattle.codec.specs.Calls.{Encodes}

@@ -7,7 +7,8 @@ use borrow.Author.Tests.{eq-eqb, le-leb, lt-leb, ne_eqb}
 use Rattle.words.specs.Sum.{first_where}
 use Rattle.words.specs.Word.{lowest_bad}
 use Rattle.refusals.specs.Refusals.{Checked, answer_number, check, first_refusal, place_named}
-use Rattle.refusals.specs.CheckLaws.{IsCode, goes_on, number_pos, passed, passes, no_more, refuses, stops, fails, all_pass}
+use Rattle.refusals.specs.IsCode.{IsCode}
+use Rattle.refusals.proofs.CheckLaws.{goes_on, number_pos, passed, passes, no_more, refuses, stops, fails, all_pass}
 use Rattle.refusals.specs.declared.Answer.{Answer}
 use Rattle.refusals.specs.declared.Answer.TheVariants.{Done, Refused}
 use Rattle.refusals.specs.declared.Refusal.{Refusal}

@@ -17,10 +17,10 @@ use Rattle.words.specs.Parts.{part_length, written_part}
 use Rattle.words.specs.Sum.{total}
 use Rattle.words.specs.SumLaws.{same_test, sum_more, sum_most, tabulate-get_or}
 use Rattle.words.specs.Word.{IsWord, bit, indicator}
-use Rattle.words.specs.WordLaws.{indicator-lt}
+use Rattle.words.proofs.WordLaws.{indicator-lt}
 use Rattle.words.specs.Written.{Written, written_all, written_none, written_to}
 use Rattle.refusals.specs.Refusals.{Checked, answer_number, answer_place, first_refusal}
-use Rattle.refusals.specs.CheckLaws.{number_pos}
+use Rattle.refusals.proofs.CheckLaws.{number_pos}
 use Rattle.refusals.specs.declared.Answer.TheVariants.{Done, Refused}
 use Rattle.refusals.specs.declared.Refusal.{Refusal}
 use Rattle.tables.specs.declared.Slot.{Slot}

@@ -6,11 +6,11 @@ use borrow.Author.Tests.{eqb-false, ltb-true, ltb-false, ne_eqb, not-true}
 use Rattle.words.specs.Sum.{sum_below}
 use Rattle.words.specs.SumLaws.{sum_ext}
 use Rattle.words.specs.Word.{IsWord, add_words, bit, differs, distance}
-use Rattle.words.specs.WordLaws.{unmod, word_add, word_bit}
+use Rattle.words.proofs.WordLaws.{unmod, word_add, word_bit}
 use Rattle.code.specs.Code.{IsCodeword, dimension}
-use Rattle.code.specs.Inverse.{encoder_codeword}
+use Rattle.code.proofs.Inverse.{encoder_codeword}
 use Rattle.refusals.specs.Refusals.{first_refusal}
-use Rattle.refusals.specs.CheckLaws.{passed, passes}
+use Rattle.refusals.proofs.CheckLaws.{passed, passes}
 use Rattle.tables.specs.declared.Slot.{Slot}
 use Rattle.generator.specs.Generator.{steps, wrong_in}
 use Rattle.generator.specs.StepLaws.{Live, steps_live}

@@ -2,7 +2,7 @@
 ghost use Rattle.std.specs.Prelude.{◌≡◌, ◌^◌, length};
 ghost use Rattle.words.specs.Word.{IsWord, add_words};
 ghost use Rattle.code.specs.Code.{dimension};
-ghost use Rattle.refusals.specs.CheckLaws.{IsCode};
+ghost use Rattle.refusals.specs.IsCode.{IsCode};
 ghost use Rattle.load.specs.Steps.{BlockDrawn, SentDrawn};
 
 use generator::Places;

@@ -1,5 +1,6 @@
 // Loads that anyone can repeat: blocks, and captures of them.
 #![tactic(auto)]
+
 ghost use Rattle.std.specs.Prelude.{◌≡◌};
 ghost use Rattle.tables.specs.Slots.{Proper};
 ghost use Rattle.tables.specs.Tables.{ours, slot_of};

@@ -1,5 +1,6 @@
 // Messages: the masks of degree at most r, ascending.
 #![tactic(auto)]
+
 ghost use Rattle.std.specs.Prelude.{◌≡◌, ◌<◌, ◌≤◌, length};
 ghost use Rattle.words.specs.Sum.{tabulate};
 ghost use Rattle.words.specs.Word.{bit};

@@ -1,7 +1,11 @@
 // The meter listing, for billing.
 #![tactic(auto)]
-use readers::Reader;
 
-fn main() {
-    programs::run(Reader::Billing);
+use readers::Reader;
+use turns::Stream;
+
+fn main(rt: HostRuntime) {
+    let mut from = Stream::new(rt.stdin());
+    let mut to = Stream::new(rt.stdout());
+    programs::run(Reader::Billing, &mut from, &mut to);
 }

@@ -6,7 +6,7 @@ use native.Mathlib.Omega.{arith}
 use lib.IntN.{ℤ, nat_abs}
 use Rattle.words.specs.Word.{bit}
 use Rattle.area.specs.Area.{at, word_of}
-use Rattle.area.specs.AreaLaws.{bit-word_of}
+use Rattle.area.proofs.AreaLaws.{bit-word_of}
 use Rattle.hadamard.specs.Correlation.{sign, values}
 use Rattle.hadamard.specs.CorrelationLaws.{sign_size}
 

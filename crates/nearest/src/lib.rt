@@ -1,6 +1,7 @@
 // The peak of a word: its halves or its quarters are packed, transformed together and searched. One call of the transform serves both, so
 // that the compiler takes it into the reading.
 #![tactic(auto)]
+
 ghost use Rattle.std.specs.Prelude.{true, ◌≡◌, ◌*◌, ◌^◌, ◌≤◌, length};
 ghost use Rattle.area.specs.Area.{Bits, SameFront, word_of};
 ghost use Rattle.hadamard.specs.Correlation.{values, correlation};

@@ -1,5 +1,6 @@
 // The lines that stay the same for every reader: of a wrong header, and the last.
 #![tactic(auto)]
+
 ghost use Rattle.std.specs.Prelude.{◌+◌, ◌≤◌, length};
 ghost use Rattle.text.specs.Texts.{Appended};
 ghost use Rattle.lines.specs.Lines.{header_line, last_line};

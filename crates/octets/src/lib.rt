@@ -1,5 +1,6 @@
 // The first order codewords in bytes, eight at a time.
 #![tactic(auto)]
+
 ghost use Rattle.std.specs.Prelude.{◌≡◌, ℕ, ◌+◌, ◌/◌, ◌%◌, ◌^◌, ◌≤◌, ◌<◌, length, nat_abs};
 ghost use Rattle.std.specs.Int.Count.{ones};
 ghost use Rattle.words.specs.Sum.{tabulate};

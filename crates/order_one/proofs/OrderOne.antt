@@ -11,7 +11,7 @@ use borrow.Rule.Slice.PartMut.{put_mid}
 use Rattle.words.specs.Sum.{tabulate}
 use Rattle.words.specs.Word.{bit}
 use Rattle.area.specs.Area.{at, Bits, word_of}
-use Rattle.area.specs.AreaLaws.{bit_back, front_of, word_of_word}
+use Rattle.area.proofs.AreaLaws.{bit_back, front_of, word_of_word}
 use Rattle.area.specs.Numbers.{stored}
 use Rattle.hadamard.specs.Correlation.{values, correlation}
 use Rattle.hadamard.specs.AffineWords.{bit-affine, word_affine}
@@ -20,9 +20,9 @@ use Rattle.affine.specs.Affine.{affine_at}
 use Rattle.peaks.specs.declared.Peak.{Peak}
 use Rattle.peaks.specs.Peaks.{IsPeak}
 use Rattle.code.specs.Code.{codeword_test}
-use Rattle.code.specs.Codewords.{codeword_of_test}
+use Rattle.code.proofs.Codewords.{codeword_of_test}
 use Rattle.rule.specs.Reading.{order1}
-use Rattle.rule.specs.Nearest.{order1_codeword}
+use Rattle.rule.proofs.Nearest.{order1_codeword}
 use Rattle.told.specs.Told.{Read}
 use Rattle.told.specs.declared.Noise.TheVariants.{Tie}
 use Rattle.told.specs.declared.Verdict.TheVariants.{Accepted, Refused}

@@ -4,7 +4,7 @@ use Rattle.std.proofs.Math.Path.{refl}
 use Rattle.std.proofs.Common.{sym, subst, ◌∙◌}
 use Rattle.words.specs.Word.{IsWord}
 use Rattle.area.specs.Area.{IsBit}
-use Rattle.area.specs.AreaLaws.{is_bit}
+use Rattle.area.proofs.AreaLaws.{is_bit}
 use Rattle.hadamard.specs.Correlation.{values, correlation, affine, constant_of}
 use Rattle.hadamard.specs.CorrelationLaws.{constant_of-lt}
 use Rattle.peaks.specs.declared.Peak.{Peak}

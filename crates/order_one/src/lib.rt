@@ -1,5 +1,6 @@
 // The reading at order 1: by the peak of the word's correlations.
 #![tactic(auto)]
+
 ghost use Rattle.std.specs.Prelude.{◌≡◌, ℕ, ◌*◌, ◌≤◌, ◌^◌, length};
 ghost use Rattle.area.specs.Area.{Bits, word_of};
 ghost use Rattle.hadamard.specs.Correlation.{values};

@@ -12,7 +12,6 @@ use Rattle.words.specs.Sum.{sum_below, sum_below_ℤ}
 use Rattle.words.specs.SumLaws.{sum_ext}
 use Rattle.words.specs.TopBit.{ones-zero}
 use Rattle.words.specs.Word.{bit, IsWord, distance}
-use Rattle.area.specs.Area.{at}
 use Rattle.hadamard.specs.Correlation.{values, correlation, affine}
 use Rattle.hadamard.specs.AffineWords.{bit-affine}
 use Rattle.hadamard.specs.CorrelationLaws.{correlation-zero, near_distance, far_distance}

@@ -1,5 +1,6 @@
 // The reading at order 0: by the number of ones.
 #![tactic(auto)]
+
 ghost use Rattle.std.specs.Prelude.{◌≡◌, ℕ, ◌≤◌, ◌^◌};
 ghost use Rattle.words.specs.Sum.{sum_below};
 ghost use Rattle.words.specs.Word.{bit};

@@ -2,7 +2,7 @@
 use Rattle.std.specs.Prelude.{ℕ, ◌≡◌, refl, List, ℤ, length}
 use Rattle.std.proofs.Common.{sym, ap, ◌∙◌}
 use Rattle.refusals.specs.Refusals.{answer_number, answer_place}
-use Rattle.refusals.specs.CheckLaws.{done_of}
+use Rattle.refusals.proofs.CheckLaws.{done_of}
 use Rattle.refusals.specs.declared.Answer.{Answer}
 use Rattle.refusals.specs.declared.Answer.TheVariants.{Done, Refused}
 use Rattle.refusals.specs.declared.Decoded.{Decoded}

@@ -1,5 +1,6 @@
 // Answers packed in 64 bits, lowest first: refusal or 0 in 8, rounds in 8, leaf count in 24, mended places in 12, the place named in 12.
 #![tactic(auto)]
+
 ghost use Rattle.std.specs.Prelude.{◌≡◌};
 ghost use Rattle.refusals.specs.Refusals.{answer_number, answer_place};
 ghost use Rattle.codec.specs.Calls.{tested_number, tested_place};

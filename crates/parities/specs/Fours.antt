@@ -5,7 +5,7 @@ use Rattle.std.proofs.Common.{ap, ap₂, ◌∙◌, to_z, of_z}
 use Rattle.std.specs.Int.Bits.{bit_xor}
 use Rattle.std.specs.Int.{w32}
 use Rattle.area.specs.Area.{at, IsBit}
-use Rattle.area.specs.AreaLaws.{bits_xor, is_bit, xor_stored}
+use Rattle.area.proofs.AreaLaws.{bits_xor, is_bit, xor_stored}
 use Rattle.coefficients.specs.TransformLaws.{sum_bit}
 use Rattle.parities.specs.Parities.{number_parities}
 use Rattle.words.specs.Butterflies.{Entries, halved}

@@ -4,7 +4,7 @@ use Rattle.std.proofs.Common.{ap, ◌∙◌, add_comm, to_z, of_z}
 use Rattle.std.specs.Int.Bits.{bit_xor}
 use Rattle.std.specs.Int.{w32}
 use Rattle.area.specs.Area.{at, IsBit, zero_bit}
-use Rattle.area.specs.AreaLaws.{bits_xor, is_bit}
+use Rattle.area.proofs.AreaLaws.{bits_xor, is_bit}
 use Rattle.words.specs.Butterflies.{Rule, Entries}
 use Rattle.words.specs.ButterflyLaws.{PairsDone, pair_room, pairs_second}
 use Rattle.coefficients.specs.TransformLaws.{sum_bit}

@@ -1,5 +1,6 @@
 // The coefficients of a word in numbers: sums mod 2, by halves.
 #![tactic(auto)]
+
 ghost use Rattle.std.specs.Prelude.{◌≡◌, ◌+◌, ◌^◌, length};
 ghost use Rattle.words.specs.Butterflies.{butterflies, halved, Entries, Blocked, BlocksDone};
 ghost use Rattle.parities.specs.Parities.{number_parities};

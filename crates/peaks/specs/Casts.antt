@@ -1,6 +1,6 @@
 -- Sizes in 32 signed bits, as the code computes with them. Assumes nothing.
 use Rattle.std.specs.Prelude.{ℕ, ◌^◌, ◌≤◌, ◌<◌, ◌≡◌, true, false, ltb, ℤ, pos, nat_abs}
-use Rattle.std.proofs.Common.{sym, ap₂, ◌∙◌, arith, ltb-true, ltb-false, to_z}
+use Rattle.std.proofs.Common.{sym, ap₂, ◌∙◌, ltb-true, ltb-false, to_z}
 use Rattle.std.specs.Int.Signed.{lt_z}
 use Rattle.std.specs.Int.{w32}
 use Rattle.std.proofs.Math.Facts.{to_z_pos}

@@ -16,7 +16,7 @@ number_read {x} e l = stored-eq x (rw e (omega arith)) ∙ e
 
 -- a number that fits
 pub as_it_is : {z : ℤ} → mag z < 2 ^ 31 → stored z ≡ z
-as_it_is l = to_z-of_z (record { sfits = l })
+as_it_is l = to_z-of_z {w = w32} (record { sfits = l })
 
 -- whether it is 0, as a test of the word says
 pub word_zero : (x : ℤ) → nat_abs x ≡ 0 → of_z w32 x ≡ 0

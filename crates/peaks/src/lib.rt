@@ -1,6 +1,7 @@
 // The greatest of the sums and differences of some pairs: of x + y and x - y the greater has size |x| + |y|. The sizes are searched for the
 // greatest and for the places that have it.
 #![tactic(auto)]
+
 ghost use Rattle.std.specs.Prelude.{◌≡◌, ◌^◌, ◌<◌, length, pos, nat_abs};
 ghost use Rattle.words.specs.Sum.{greatest_below};
 ghost use Rattle.area.specs.Area.{size_at};

@@ -1,5 +1,6 @@
 // What was listed of a part of a capture, and what listing it needs of no decoder: whether it is there, what was listed next, the bytes left.
 #![tactic(auto)]
+
 ghost use Rattle.std.specs.Prelude.{◌≡◌, ◌+◌, ◌-◌, ◌*◌, ◌^◌, ◌≤◌, ◌<◌, cond, ◌++◌, length, drop};
 ghost use Rattle.tables.specs.Slots.{Proper};
 ghost use Rattle.capture.specs.Capture.{body_length};

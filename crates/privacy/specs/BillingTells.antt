@@ -8,13 +8,13 @@ use mathlib.Core.List.{List, [], ◌∷◌, ◌++◌, append_cancel_left, append
 use Rattle.std.proofs.Math.ListN.{get_or}
 use Rattle.words.specs.SumLaws.{get_or-tabulate}
 use Rattle.words.specs.Word.{IsWord, add_words, bit}
-use Rattle.words.specs.WordLaws.{word_add, word_bit, word_ext}
+use Rattle.words.proofs.WordLaws.{word_add, word_bit, word_ext}
 use Rattle.code.specs.Code.{IsCodeword, codeword, message_of}
-use Rattle.code.specs.MessageLaws.{codeword_message, message_bits, message_length}
+use Rattle.code.proofs.MessageLaws.{codeword_message, message_bits, message_length}
 use Rattle.profiles.specs.declared.Profile.{Profile}
 use Rattle.rule.specs.Reading.{Outcome, accepted, refused}
 use Rattle.rule.specs.Decoding.{refusal_of}
-use Rattle.rule.specs.Demand3.{Agree, Sound, decode_sound, demand_3}
+use Rattle.rule.proofs.Demand3.{Agree, Sound, decode_sound, demand_3}
 use Rattle.alike.specs.Alike.{Differ}
 use Rattle.text.specs.Numbers.{hex_digit, hex_of, nibble, ten_digits}
 use Rattle.text.specs.Texts.{Bits}

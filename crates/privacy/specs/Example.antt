@@ -7,9 +7,9 @@ use Rattle.std.proofs.Common.{arith, sym, ap, ◌∙◌}
 use Rattle.std.specs.Int.Count.{ones, ones_in}
 use Rattle.words.specs.Sum.{first_where, tabulate, total}
 use Rattle.words.specs.Word.{add_words, distance}
-use Rattle.words.specs.WordLaws.{word_add, word_tabulate}
+use Rattle.words.proofs.WordLaws.{word_add, word_tabulate}
 use Rattle.code.specs.Code.{codeword_test, coefficient, gather, low_test, message_of}
-use Rattle.code.specs.Codewords.{codeword_of_test}
+use Rattle.code.proofs.Codewords.{codeword_of_test}
 use Rattle.hadamard.specs.Correlation.{affine, correlation, count_below}
 use Rattle.refusals.specs.Refusals.{first_refusal}
 use Rattle.rule.specs.Reading.{order1, reading}

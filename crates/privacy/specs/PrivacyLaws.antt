@@ -11,7 +11,7 @@ use Rattle.capture.specs.Capture as capture
 use Rattle.capture.specs.Capture.{profile_at, record_size, serial_of, slot_at, unpacked}
 use Rattle.lines.specs.Lines.{Entry, last_line, record_entry}
 use Rattle.crew.specs.Crew.{crew}
-use Rattle.crew.specs.CrewLaws.{entry_same}
+use Rattle.crew.proofs.CrewLaws.{entry_same}
 use Rattle.pieces.specs.declared.Listed.{Listed}
 use Rattle.pieces.specs.Listing.{accepted_of, is_record, lines_of, listing_of, start, starts_record}
 use Rattle.pieces.specs.Pieces.{Piece, entries}

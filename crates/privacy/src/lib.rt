@@ -1,5 +1,6 @@
 // Two parts of captures listed for the crew: the same bytes where the blocks differ by codewords. Document 02, request 7.
 #![tactic(auto)]
+
 ghost use Rattle.privacy.specs.Same.{SameLines, SameRecords};
 
 use pieces::Listed;

@@ -1,5 +1,6 @@
 // Document 01, "Profiles".
 #![tactic(auto)]
+
 ghost use Rattle.std.specs.Prelude.{◌≡◌, ◌<◌};
 ghost use Rattle.profiles.specs.Profiles;
 ghost use Rattle.profiles.specs.Profiles.{profile_of};

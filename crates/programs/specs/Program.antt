@@ -1,13 +1,16 @@
 -- The turns of a program that lists its input: what each does to what is kept, and what turns one after the other have read, listed and
--- handed out to be written. What `read` put into the buffer, and whether `write` took what it was handed, is not said here. Assumes nothing.
-use Rattle.std.specs.Prelude.{ℕ, suc, ◌+◌, ◌-◌, ◌^◌, ◌<◌, ◌≡◌, Bool, true, false, not, ◌&&◌, List, [], ◌++◌, length, take, drop, ℤ}
+-- handed out to be written; and, where the bytes that a reader has left and a writer holds are known, that these lost what was read and
+-- grew by what was written. Assumes nothing.
+use Rattle.std.specs.Prelude.{ℕ, suc, ◌+◌, ◌-◌, ◌^◌, ◌<◌, ◌≡◌, Bool, true, false, not, ◌&&◌, List, [], ◌++◌, length, take, drop, Option, ℤ}
+use Rattle.std.specs.Io.KnownBytes.{Appends, Consumes}
 use Rattle.header.specs.Header.{header_test}
 use Rattle.tables.specs.declared.Table.{Table}
 use Rattle.lines.specs.Lines.{Lines, last_line}
 use Rattle.pieces.specs.declared.Listed.{Listed}
 use Rattle.pieces.specs.Pieces.{Turn}
 use Rattle.turns.specs.declared.State.{State}
-use Rattle.turns.specs.Turns.{Filled, begun, came, capped}
+use Rattle.turns.specs.declared.Stream.{Stream}
+use Rattle.turns.specs.Turns.{Filled, ReadOut, begun, came, capped}
 
 -- the state after d was listed of what is held, `sent` where its lines were all written
 abbrev pub after_listing : State → Listed → Bool → State
@@ -18,6 +21,14 @@ after_listing s d sent = record {
   accepted = capped (s.accepted + d.accepted);
   more = sent && not d.ended;
 }
+
+-- what came was read, in order, and where the program takes the input to have ended no known byte is left, unless a read failed; the text
+-- was written, where all of it was, else the writer has failed
+pub record Moved {R W : Type 0} (remaining : R → Option (List ℕ)) (contents : W → Option (List ℕ)) (from from' : Stream R) (to to' : Stream W) (input text : List ℕ) (last sent : Bool) : Type 0 where
+  pub took : Consumes (remaining from.inner) (remaining from'.inner) input
+  pub ended : ReadOut last from'.failed (remaining from'.inner)
+  pub wrote : sent ≡ true → Appends (contents to.inner) (contents to'.inner) text
+  pub whole : to'.failed ≡ false → sent ≡ true
 
 module _ (table : Table) (reader : Lines) where
   -- what the buffer holds was listed, and the rest stands at its front
@@ -64,3 +75,17 @@ module _ (table : Table) (reader : Lines) where
     pub wrote : sent ≡ true
     pub over : state.more ≡ false
     pub are : bytes ≡ text ++ last_line state.records state.accepted
+
+  -- ---- where it is read and written
+
+  -- a turn whose lines were written, where they all were; else the writer has failed
+  pub record TurnedTo {W : Type 0} (contents : W → Option (List ℕ)) (s t : State) (to to' : Stream W) (buffer buffer' out out' : List ℕ) (area area' : List ℤ) : Type 0 where
+    pub turned : Turned s t buffer buffer' out out' area area'
+    pub wrote : turned.sent ≡ true → Appends (contents to.inner) (contents to'.inner) (take turned.listed.written out')
+    pub whole : to'.failed ≡ false → turned.sent ≡ true
+    pub failing : to'.failed ≡ false → to.failed ≡ false
+
+  -- turns that read from one stream and write to another
+  pub record RanBetween {R W : Type 0} (remaining : R → Option (List ℕ)) (contents : W → Option (List ℕ)) (from from' : Stream R) (to to' : Stream W) (s : State) (buffer : List ℕ) : Type 0 where
+    pub ran : Ran s buffer
+    pub moved : Moved remaining contents from from' to to' ran.input ran.text s.last ran.sent

@@ -1,8 +1,9 @@
 -- What a run of the program has written: the listing of its input. Assumes nothing.
-use Rattle.std.specs.Prelude.{ℕ, suc, ◌+◌, ◌-◌, ◌^◌, ◌≤◌, ◌<◌, ◌≡◌, Bool, true, false, not, ◌&&◌, List, [], ◌++◌, length, take, drop, ℤ}
+use Rattle.std.specs.Prelude.{ℕ, suc, ◌+◌, ◌-◌, ◌^◌, ◌≤◌, ◌<◌, ◌≡◌, Bool, true, false, not, ◌&&◌, List, [], ◌++◌, length, take, drop, Option, refl, ℤ}
 use Rattle.std.proofs.Common.{arith, sym, ap, subst, ◌∙◌, append_assoc, length-drop, take-append-drop, drop_at, length-take-le, take_at}
 use Rattle.std.proofs.lemmas.Bool.{false≢true, not-false, not-true}
-use borrow.Rule.Slice.PartMut.{put_mid}
+use Rattle.std.proofs.KnownBytes.{Appends-nil, Appends-trans, Consumes-nil, Consumes-trans}
+use Rattle.std.specs.Io.KnownBytes.{Appends, Consumes}
 use Rattle.words.specs.SumLaws.{both_true}
 use Rattle.header.specs.Header.{header_test}
 use Rattle.tables.specs.declared.Table.{Table}
@@ -13,9 +14,10 @@ use Rattle.pieces.specs.Pieces.{Turn}
 use Rattle.listing.specs.Joins as joins
 use Rattle.listing.specs.Joins.{Progress, counts_few, listing_joins}
 use Rattle.turns.specs.declared.State.{State}
-use Rattle.turns.specs.Turns.{Filled, begun, came, capped}
+use Rattle.turns.specs.declared.Stream.{Stream}
+use Rattle.turns.specs.Turns.{Filled, ReadOut, begun, came, capped}
 use Rattle.turns.specs.TurnLaws.{capped_again, capped_within, counts_stay, held_then}
-use Rattle.programs.specs.Program.{Printed, Ran, Run, Turned, after_listing, starts, then}
+use Rattle.programs.specs.Program.{Moved, Printed, Ran, Run, Turned, after_listing, starts, then}
 
 -- the state of the loop: `left` of the 2^64 − 1 turns are not made yet
 pub record Running (table : Table) (reader : Lines) (left : ℕ) (s : State) (buffer : List ℕ) : Type 0 where
@@ -43,17 +45,16 @@ module _ {table : Table} {reader : Lines} where
   -- ---- the code's return
 
   -- the first bytes of the buffer were lent and have come back
-  pub turned : {s t : State} {buffer back out out' : List ℕ} {area area' : List ℤ} {d : Listed} (sent : Bool) (k : ℕ) → k ≡ s.held → s.held ≤ length buffer
-      → length back ≡ length (take k buffer) → Turn table reader (take k buffer) back s.last out out' area area' d
-      → t ≡ after_listing s d sent → Turned table reader s t buffer (put_mid 0 k buffer back) out out' area area'
-  turned {s} {buffer = buffer} {back} {out} {out'} {area} {area'} {d} sent k e h same turn state =
-      let n : length back ≡ s.held = same ∙ length-take-le k buffer (omega arith) ∙ e in
+  abbrev pub turned : {s t : State} {buffer back out out' : List ℕ} {area area' : List ℤ} {d : Listed} (sent : Bool) → s.held ≤ length buffer
+      → length back ≡ length (take s.held buffer) → Turn table reader (take s.held buffer) back s.last out out' area area' d
+      → t ≡ after_listing s d sent → Turned table reader s t buffer (back ++ drop s.held buffer) out out' area area'
+  turned {s} {buffer = buffer} {back} {out} {out'} {area} {area'} {d} sent h same turn state =
+      let n : length back ≡ s.held = same ∙ length-take-le s.held buffer h in
       record {
         listed = d;
         sent = sent;
-        turn = subst (λ (i : ℕ). Turn table reader (take i buffer) (take s.held (back ++ drop k buffer)) s.last out out' area area' d) e
-            (subst (λ (b : List ℕ). Turn table reader (take k buffer) b s.last out out' area area' d) (sym (take_at back (drop k buffer) s.held n)) turn);
-        past = drop_at back (drop k buffer) s.held n ∙ ap (λ (i : ℕ). drop i buffer) e;
+        turn = subst (λ (b : List ℕ). Turn table reader (take s.held buffer) b s.last out out' area area' d) (sym (take_at back (drop s.held buffer) s.held n)) turn;
+        past = drop_at back (drop s.held buffer) s.held n;
         state = state;
       }
 
@@ -61,14 +62,14 @@ module _ {table : Table} {reader : Lines} where
   held_less l = omega (arith, ap (λ (x : State). x.held) l.state)
 
   -- turns one after the other
-  pub run_starts : (buffer : List ℕ) → Running table reader (2 ^ 64 - 1) begun buffer
+  abbrev pub run_starts : (buffer : List ℕ) → Running table reader (2 ^ 64 - 1) begun buffer
   run_starts buffer = record { turns = 0; input = []; text = []; sent = true; run = starts buffer; count = omega arith }
 
-  pub run_on : {left : ℕ} {s u t : State} {buffer filled rest out out' : List ℕ} {area area' : List ℤ} → Running table reader left s buffer → s.more ≡ true → 0 < left
+  abbrev pub run_on : {left : ℕ} {s u t : State} {buffer filled rest out out' : List ℕ} {area area' : List ℤ} → Running table reader left s buffer → s.more ≡ true → 0 < left
       → Filled s u buffer filled → Turned table reader u t filled rest out out' area area' → Running table reader (left - 1) t rest
   run_on r on h f l = record { turns = suc r.turns; input = _; text = _; sent = _; run = then r.run on f l; count = omega (arith, r.count) }
 
-  pub run_ends : {left : ℕ} {s : State} {buffer : List ℕ} → Running table reader left s buffer → (s.more ≡ true → left ≡ 0) → Ran table reader s buffer
+  abbrev pub run_ends : {left : ℕ} {s : State} {buffer : List ℕ} → Running table reader left s buffer → (s.more ≡ true → left ≡ 0) → Ran table reader s buffer
   run_ends r h = record { turns = r.turns; input = r.input; text = r.text; sent = r.sent; run = r.run; stops = λ e. omega (arith, r.count, h e) }
 
   -- ---- what is held
@@ -154,3 +155,31 @@ module _ {table : Table} {reader : Lines} where
 
   pub printed_listing : {c bytes : List ℕ} → Printed table reader c bytes → bytes ≡ listing_of table reader c
   printed_listing {c} p = p.are ∙ sym (run_lists c p.unread p.right p.short p.run p.came_all p.ends p.wrote p.over)
+
+-- ---- what is read and written on the way
+
+module _ {R W : Type 0} {remaining : R → Option (List ℕ)} {contents : W → Option (List ℕ)} where
+  pub moves_none : (from : Stream R) (to : Stream W) → Moved remaining contents from from to to [] [] false true
+  moves_none from to = record {
+    took = Consumes-nil (remaining from.inner);
+    ended = λ e. absurd (false≢true e);
+    wrote = λ _. Appends-nil (contents to.inner);
+    whole = λ _. refl;
+  }
+
+  -- one turn more
+  pub moves_on : {from from' from'' : Stream R} {to to' to'' : Stream W} {input text : List ℕ} {last last' last'' sent sent' : Bool} (new lines : List ℕ)
+      → Moved remaining contents from from' to to' input text last sent
+      → Consumes (remaining from'.inner) (remaining from''.inner) new
+      → (ReadOut last from'.failed (remaining from'.inner) → ReadOut last' from''.failed (remaining from''.inner))
+      → (sent' ≡ true → Appends (contents to'.inner) (contents to''.inner) lines)
+      → (to''.failed ≡ false → sent' ≡ true) → (to''.failed ≡ false → to'.failed ≡ false) → last'' ≡ last'
+      → Moved remaining contents from from'' to to'' (input ++ new) (text ++ lines) last'' (sent && sent')
+  moves_on {from} {from'} {from''} {to} {to'} {to''} {input} {text} {sent = sent} {sent'} new lines m took ended wrote whole failing same = record {
+    took = Consumes-trans (remaining from.inner) (remaining from'.inner) (remaining from''.inner) input new m.took took;
+    ended = λ e. ended m.ended (sym same ∙ e);
+    wrote = λ e.
+        let b = both_true sent sent' e in
+        Appends-trans (contents to.inner) (contents to'.inner) (contents to''.inner) text lines (m.wrote b.0) (wrote b.1);
+    whole = λ e. ap (λ (b : Bool). b && sent') (m.whole (failing e)) ∙ whole e;
+  }

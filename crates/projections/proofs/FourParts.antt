@@ -9,7 +9,7 @@ use lib.IntN.{ℤ, pos, nat_abs}
 use Rattle.words.specs.Written.{Written}
 use Rattle.words.specs.Parts.{part_length, at-part_of}
 use Rattle.area.specs.Area.{at, IsBit, four_of}
-use Rattle.area.specs.AreaLaws.{is_bit, bit_back, four_as}
+use Rattle.area.proofs.AreaLaws.{is_bit, bit_back, four_as}
 use Rattle.area.specs.Numbers.{stored}
 use Rattle.projections.specs.Fours.{bit_sum, BitPair, TwoBlocks, pair_sum}
 use Rattle.projections.specs.FourLaws.{four_lt}

@@ -10,10 +10,11 @@ use lib.IntN.{ℤ, pos}
 use Rattle.words.specs.Word.{bit}
 use Rattle.words.specs.Xor.{xor_twice}
 use Rattle.area.specs.Area.{at, word_of}
-use Rattle.area.specs.AreaLaws.{bits_xor}
+use Rattle.area.proofs.AreaLaws.{bits_xor}
 use Rattle.direction.specs.Direction.{coset_of, insert_zero, project}
-use Rattle.direction.specs.Insert.{Top, top_le}
-use Rattle.direction.specs.Members.{IsDirection, Members, members, direction_top, number_one, number_two, only_members}
+use Rattle.direction.proofs.Insert.{Top, top_le}
+use Rattle.direction.specs.IsDirection.{IsDirection}
+use Rattle.direction.proofs.Members.{Members, members, direction_top, number_one, number_two, only_members}
 use Rattle.cosets.specs.SetBelow.{Among, among, Blocks}
 use Rattle.cosets.specs.Votes.{Projects}
 use Rattle.projections.specs.Fours.{InFours, TwoBlocks, pair_sum}

@@ -6,8 +6,8 @@ use Rattle.std.specs.Int.Bits.{bit_xor}
 use Rattle.std.proofs.lemmas.Nat.{xor_block, xor_lt}
 use Rattle.words.specs.Xor.{xor_twice}
 use Rattle.direction.specs.Direction.{insert_zero}
-use Rattle.direction.specs.Insert.{Top, insert_sum}
-use Rattle.direction.specs.Members.{partner_apart}
+use Rattle.direction.proofs.Insert.{Top, insert_sum}
+use Rattle.direction.proofs.Members.{partner_apart}
 
 -- ---- the places of a block
 

@@ -1,5 +1,6 @@
 // The projection of a word by a direction, in the area.
 #![tactic(auto)]
+
 ghost use Rattle.std.specs.Prelude.{suc, ◌*◌, ◌^◌, pos};
 ghost use Rattle.words.specs.Word.{bit};
 ghost use Rattle.words.specs.Written.{Written};

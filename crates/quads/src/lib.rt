@@ -1,5 +1,6 @@
 // Four numbers packed in one: the numbers of a quad, and the pairs that their sums and their differences are.
 #![tactic(auto)]
+
 ghost use Rattle.std.specs.Prelude.{cond, ◌≡◌, ◌<◌, eqb};
 ghost use Rattle.quads.specs.Quads.{number_of, first_sum, last_sum, first_difference, last_difference, Raisable};
 

@@ -1,5 +1,5 @@
 -- Quads of signs in 32 signed bits, as the code makes them. Assumes nothing.
-use Prim.Native.Nat.{ℕ, ◌+◌, ◌-◌, ◌*◌, ◌^◌, ◌≤◌, ◌<◌}
+use Prim.Native.Nat.{ℕ, ◌+◌, ◌*◌, ◌^◌, ◌≤◌, ◌<◌}
 use mathlib.Core.Path.{◌≡◌, refl, ◌∙◌}
 use mathlib.Core.List.{List}
 use native.Mathlib.Nat.{add-zero}
@@ -12,7 +12,7 @@ use mir.Val.{Fits, SFits}
 use mir.Facts.{to_z-of_z}
 use Rattle.words.specs.Written.{Written}
 use Rattle.area.specs.Area.{at, IsBit, zero_bit, one_bit, four_of}
-use Rattle.area.specs.AreaLaws.{bit_lt, four_as}
+use Rattle.area.proofs.AreaLaws.{bit_lt, four_as}
 use Rattle.area.specs.Numbers.{stored, stored-eq, fits_32}
 use Rattle.area.specs.Places.{Places, index_fits, places}
 use Rattle.hadamard.specs.Correlation.{sign}

@@ -1,5 +1,6 @@
 // The signs of a word's quarters, packed four to a number.
 #![tactic(auto)]
+
 ghost use Rattle.std.specs.Prelude.{◌≡◌, ◌+◌, ◌*◌, ◌≤◌, ◌<◌, pos};
 ghost use Rattle.words.specs.Written.{Written};
 ghost use Rattle.quarter_packing.specs.QuarterSigns.{quad_signs, QuarterBits};

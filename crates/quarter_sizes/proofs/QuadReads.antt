@@ -7,7 +7,7 @@ use lib.IntN.{ℤ, pos}
 use lib.ListN.{length}
 use Rattle.words.specs.Written.{Written}
 use Rattle.area.specs.Area.{at, four_of}
-use Rattle.area.specs.AreaLaws.{four_as}
+use Rattle.area.proofs.AreaLaws.{four_as}
 use Rattle.area.specs.Numbers.{stored, stored-eq}
 use Rattle.area.specs.Places.{Places, places}
 use Rattle.peaks.specs.Stored.{number_read}

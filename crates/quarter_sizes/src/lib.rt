@@ -1,5 +1,6 @@
 // The sizes of the sums and the differences of quads, written after them.
 #![tactic(auto)]
+
 ghost use Rattle.std.specs.Prelude.{◌≡◌, ◌+◌, ◌/◌, ◌%◌, ◌≤◌, pos};
 ghost use Rattle.quarter_sizes.specs.Sized.{Quads, FourSized, Sized};
 

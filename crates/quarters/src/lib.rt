@@ -1,6 +1,7 @@
 // The greatest correlation of a word of 16 to 128 places. The four quarters of the word are packed in one number and transformed together;
 // the last two levels of the transform are not made: the sums and differences of the quarters are pairs, whose sizes are searched.
 #![tactic(auto)]
+
 ghost use Rattle.std.specs.Prelude.{◌+◌};
 ghost use Rattle.peaks.specs.Peaks.{joined, IsPeak};
 ghost use Rattle.quarter_sizes.specs.Sized.{Quads};

@@ -1,5 +1,6 @@
 // The message reader, of words that passed the checks.
 #![tactic(auto)]
+
 ghost use Rattle.std.specs.Prelude.{◌≡◌, cond, ◌^◌, ◌≤◌, length};
 ghost use Rattle.words.specs.Sum.{tabulate};
 ghost use Rattle.words.specs.Word.{IsWord};

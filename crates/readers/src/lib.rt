@@ -1,5 +1,6 @@
 // The lines of a listing for each of its readers. Nothing else of the listing asks who reads it.
 #![tactic(auto)]
+
 ghost use Rattle.std.specs.Prelude.{◌+◌, ◌≤◌, length};
 ghost use Rattle.refusals.specs.Refusals.{number_of};
 ghost use Rattle.text.specs.Texts.{Appended};

@@ -15,15 +15,15 @@ use Rattle.words.specs.SumLaws.{sum_most, sum_prefix}
 use Rattle.words.specs.Word.{bit, IsWord}
 use Rattle.words.specs.Written.{Written}
 use Rattle.area.specs.Area.{at, IsBit, Bits, Front, SameFront, word_of}
-use Rattle.area.specs.AreaLaws.{bits_at, is_bit, front_bits, front_word, front_of, front_kept}
+use Rattle.area.proofs.AreaLaws.{bits_at, is_bit, front_bits, front_word, front_of, front_kept}
 use Rattle.direction.specs.Direction.{project, coset_of}
-use Rattle.direction.specs.Members.{number_lt}
-use Rattle.direction.specs.Projected.{word_project}
+use Rattle.direction.proofs.Members.{number_lt}
+use Rattle.direction.proofs.Projected.{word_project}
 use Rattle.cosets.specs.Votes.{Projects, Tally, cast_vote}
 use Rattle.rule.specs.Reading.{Outcome, abstained, abstains, leaves_of, reading, round_leaves, vote, votes}
 use Rattle.rule.specs.Decoding.{limited}
-use Rattle.rule.specs.DecodingLaws.{limited_within}
-use Rattle.rule.specs.Rounds.{vote_once}
+use Rattle.rule.proofs.DecodingLaws.{limited_within}
+use Rattle.rule.proofs.Rounds.{vote_once}
 use Rattle.told.specs.Told.{numbers_of, numbers_in, Holds, Read, Kept}
 use Rattle.told.specs.declared.Told.{Told}
 use Rattle.told.specs.declared.Verdict.{Verdict}
@@ -325,6 +325,13 @@ pub record Cast (f : Round) (ys zs us ts : List ℤ) (i used absent a : ℕ) (to
   pub votes : Written (pos 0) (2 ^ suc f.m) (2 ^ suc f.m)
       (λ p. at (back a zs us) (2 ^ suc f.m + p) +ℤ pos (vote_of f.m (i + 1) (back a zs us) told.answer p)) (back a zs us) ts
 
+pub cast_of : {f : Round} {ys zs us ts : List ℤ} {i used absent a : ℕ} {told : Told} {count : Count} → Answered f ys zs us i used absent a told
+    → count ≡ count_in (numbers_in told.answer)
+    → Written (pos 0) (2 ^ suc f.m) (2 ^ suc f.m)
+    (λ p. at (back a zs us) (2 ^ suc f.m + p) +ℤ pos (vote_of f.m (i + 1) (back a zs us) told.answer p)) (back a zs us) ts
+    → Cast f ys zs us ts i used absent a told count
+cast_of answered counts votes = record { answered = answered; counts = counts; votes = votes }
+
 module _ {f : Round} {ys zs us ts : List ℤ} {i used absent a : ℕ} {told : Told} {count : Count}
     (cast : Cast f ys zs us ts i used absent a told count) where
   open f use {m, r, limit, left, word, size}
@@ -420,3 +427,58 @@ module _ {f : Round} {xs : List ℤ} (from : From f xs) where
         kept = kept e w;
         tally = λ l. absurd (omega arith);
       }
+
+-- ---- in the code
+
+-- n numbers, half of the word, and the votes' zeros in the area xs
+pub record Starting (m r left n : ℕ) (xs zs : List ℤ) : Type 0 where
+  pub ready : Ready (suc m) (suc r) left xs
+  pub some : 1 ≤ r
+  pub number : n ≡ 2 ^ m
+  pub filled : zs ≡ replicate (length (take (2 * (2 * n) - 2 * n) (drop (2 * n) xs))) (pos 0)
+
+-- the area then
+abbrev pub started : ℕ → List ℤ → List ℤ → List ℤ
+started n xs zs = put_mid (2 * n) (2 * (2 * n) - 2 * n) xs zs
+
+pub starting : {m r left n : ℕ} {xs zs : List ℤ} → Ready (suc m) (suc r) left xs → 1 ≤ r → n ≡ 2 ^ m
+    → zs ≡ replicate (length (take (2 * (2 * n) - 2 * n) (drop (2 * n) xs))) (pos 0) → Starting m r left n xs zs
+starting ready some number filled = record { ready = ready; some = some; number = number; filled = filled }
+
+module _ {m r left n : ℕ} {xs zs : List ℤ} (s : Starting m r left n xs zs) where
+  zeroed : Zeroed m (2 * n) (2 * (2 * n) - 2 * n) xs zs
+  zeroed = record { start = omega (arith, s.number); many = omega (arith, s.number); room = s.ready.room; filled = s.filled }
+
+  pub started_long : length (started n xs zs) ≡ length xs
+  started_long = start_long zeroed
+
+  pub started_from : (limit : ℕ) → From (round_of m r limit left (started n xs zs)) xs
+  started_from limit = start_from zeroed r limit left s.ready.bits
+
+  pub started_poll : (limit : ℕ) → Poll (round_of m r limit left (started n xs zs)) (started n xs zs) 0 0 0
+  started_poll limit = start_poll zeroed r limit left s.ready.bits
+
+  module _ {limit i used absent : ℕ} {ys : List ℤ} (poll : Poll (round_of m r limit left (started n xs zs)) ys i used absent) where
+    pub started_done : 2 * n - 1 ≤ i → Voted m left (reading r m limit) xs ys (Done used absent)
+    started_done h = poll_done (started_from limit) poll (omega (arith, s.number))
+
+    module _ (less : i < 2 * n - 1) where
+      pub started_stage : Stage (round_of m r limit left (started n xs zs)) ys i used absent
+      started_stage = record {
+        some = omega (arith, s.some, s.ready.order);
+        small = omega (arith, s.ready.small);
+        order = omega (arith, s.ready.order);
+        cap = s.ready.few;
+        room = omega (arith, started_long, s.ready.room);
+        poll = poll;
+        more = omega (arith, s.number);
+      }
+
+      module _ {us : List ℤ} (projected : Written (pos 0) (4 * 2 ^ m) (2 ^ m) (λ q. pos (bit (project m (i + 1) (word_of (2 ^ suc m) ys)) q)) ys us) where
+        pub started_lent : Lent (round_of m r limit left (started n xs zs)) ys us i used absent (2 * (2 * n))
+        started_lent = record { stage = started_stage; projected = projected; place = omega (arith, s.number) }
+
+        pub started_answered : {vs : List ℤ} {told : Told} → length vs ≡ length (rest (2 * (2 * n)) us)
+            → Read (2 ^ m) (limited (left - used) (reading r m limit (word_of (2 ^ m) (rest (2 * (2 * n)) us)))) vs told.answer
+            → Kept (2 ^ m) (rest (2 * (2 * n)) us) vs told → Answered (round_of m r limit left (started n xs zs)) ys us vs i used absent (2 * (2 * n)) told
+        started_answered same read kept = record { lent = started_lent; same = same; read = read; kept = kept }

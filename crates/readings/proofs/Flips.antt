@@ -12,13 +12,13 @@ use borrow.Author.Tests.{eqb-true}
 use Rattle.words.specs.Sum.{all_below}
 use Rattle.words.specs.SumLaws.{all_ext, all_true, bit_tabulate}
 use Rattle.words.specs.Word.{bit, indicator, add_words, IsWord}
-use Rattle.words.specs.WordLaws.{word_add, word_bit, word_of_bits}
+use Rattle.words.proofs.WordLaws.{word_add, word_bit, word_of_bits}
 use Rattle.words.specs.Written.{Written}
 use Rattle.area.specs.Area.{at, Front, word_of}
-use Rattle.area.specs.AreaLaws.{front_word, front_kept}
+use Rattle.area.proofs.AreaLaws.{front_word, front_kept}
 use Rattle.cosets.specs.Votes.{Tally}
 use Rattle.rule.specs.Reading.{Outcome, votes, abstained, flipped, flips}
-use Rattle.rule.specs.Rounds.{flips_word, still, votes_cast}
+use Rattle.rule.proofs.Rounds.{flips_word, still, votes_cast}
 use Rattle.flips.specs.Flips.{flip_of}
 
 module _ (m : ℕ) (lower : List ℕ → Outcome) (w : List ℕ) where

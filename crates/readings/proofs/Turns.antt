@@ -13,16 +13,16 @@ use lib.IntN.{ℤ, pos}
 use Rattle.words.specs.Sum.{all_below}
 use Rattle.words.specs.Word.{bit, add_words}
 use Rattle.words.specs.Written.{Written}
-use Rattle.area.specs.Area.{at, Bits, Front, SameFront, word_of}
-use Rattle.area.specs.AreaLaws.{front_bits, front_word, front_of, front_kept}
+use Rattle.area.specs.Area.{Bits, Front, SameFront, word_of}
+use Rattle.area.proofs.AreaLaws.{front_bits, front_word, front_of, front_kept}
 use Rattle.code.specs.Code.{codeword_test}
 use Rattle.cosets.specs.Votes.{Tally}
 use Rattle.hadamard.specs.Correlation.{values}
 use Rattle.rule.specs.Reading.{Outcome, accepted, refused, leaves_of, order0, order1, abstained, flips, reading, round_leaves, rounds}
-use Rattle.rule.specs.Rounds.{rounds_none, rounds_step, still}
-use Rattle.rule.specs.Counts.{Leaf, reading_leaf, round_least}
+use Rattle.rule.proofs.Rounds.{rounds_none, rounds_step, still}
+use Rattle.rule.proofs.Counts.{Leaf, reading_leaf, round_least}
 use Rattle.rule.specs.Decoding.{limited}
-use Rattle.rule.specs.DecodingLaws.{limited_within}
+use Rattle.rule.proofs.DecodingLaws.{limited_within}
 use Rattle.told.specs.Told.{numbers_in, Read}
 use Rattle.told.specs.ToldLaws.{read_above, read_within}
 use Rattle.told.specs.declared.Noise.TheVariants.{Flipping, TooManyLeaves, Unsettled}
@@ -281,3 +281,23 @@ turn_first m r limit left xs h some bits =
       same = reading_above r m limit (word_of (2 ^ m) xs) h
           ∙ ap₂ (λ (i j : ℕ). rounds (m - 1) (reading (r - 1) (m - 1) limit) r i 0 0 (word_of (2 ^ j) xs)) (sym (sub-zero limit)) up;
     }
+
+-- a round was made by the code
+pub made_of : {m r limit left k used count absent : ℕ} {xs ys zs : List ℤ} {c : Count} → 2 ≤ r → Ready m r left xs
+    → Turn (series m r limit left xs) ys k used → k < limit → length zs ≡ length ys
+    → Voted (m - 1) (left - used) (reading (r - 1) (m - 1) limit) ys zs c → c ≡ Done count absent
+    → Made (series m r limit left xs) ys zs k used c count absent
+made_of h ready turn more e voted done = record {
+  up = omega (arith, ready.some);
+  turn = turn;
+  more = more;
+  room = omega (arith, ready.room);
+  same_length = e;
+  voted = voted;
+  done = done;
+}
+
+pub flips_of : {f : Series} {ys zs us : List ℤ} {k used : ℕ} {c : Count} {count absent n : ℕ} {b : Bool} → Made f ys zs k used c count absent → n ≡ 2 ^ f.M
+    → b ≡ all_below n (λ p. eqb (flip_of n absent zs p) 0)
+    → Written (pos 0) 0 n (λ p. pos ((bit (word_of n zs) p + flip_of n absent zs p) % 2)) zs us → Flips f ys zs us k used c count absent n b
+flips_of made many none flipped = record { made = made; many = many; none = none; flipped = flipped }

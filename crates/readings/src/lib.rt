@@ -2,6 +2,7 @@
 // A reading at exponent m has its word in the first 2^m numbers of its area; above order 1 the next 2^m are votes, and what is left is
 // lent to the readings one order lower.
 #![tactic(auto)]
+
 ghost use Rattle.std.specs.Prelude.{◌≡◌, ℕ, suc, ◌+◌, ◌*◌, ◌^◌, ◌≤◌, ◌<◌, length};
 ghost use Rattle.area.specs.Area.{word_of};
 ghost use Rattle.rule.specs.Reading;

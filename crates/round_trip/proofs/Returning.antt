@@ -1,14 +1,14 @@
 -- Two calls in buffers of the right sizes, the second given the first one's output. Assumes nothing.
 use Prim.Native.Nat.{ℕ, ◌<◌}
-use mathlib.Core.Path.{◌≡◌, sym, ap, ◌∙◌, subst}
+use mathlib.Core.Path.{sym, ap, ◌∙◌, subst}
 use mathlib.Core.List.{List}
 use lib.ListN.{length}
 use Rattle.words.specs.Word.{bit}
 use Rattle.refusals.specs.declared.Answer.{Answer}
-use Rattle.refusals.specs.CheckLaws.{IsCode}
+use Rattle.refusals.specs.IsCode.{IsCode}
 use Rattle.code.specs.Code.{IsCodeword, codeword, message_of}
-use Rattle.code.specs.Inverse.{encoder_codeword}
-use Rattle.code.specs.MessageLaws.{codeword_message, message_bits, message_codeword, message_length}
+use Rattle.code.proofs.Inverse.{encoder_codeword}
+use Rattle.code.proofs.MessageLaws.{codeword_message, message_bits, message_codeword, message_length}
 use Rattle.codec_checks.specs.Passed.{encode_passes, read_passes}
 use Rattle.codec.specs.Calls.{Encodes, Reads}
 use Rattle.codec.specs.CallLaws.{call_passed}

@@ -1,5 +1,6 @@
 // Two calls that undo one another: a message encoded and read, a codeword read and encoded.
 #![tactic(auto)]
+
 ghost use Rattle.code.specs.Code.{IsCodeword, codeword, message_of};
 ghost use Rattle.round_trip.specs.RoundTrip.{Back, Fit, IsMessage};
 

@@ -10,7 +10,7 @@ use borrow.Rule.Slice.PartMut.{put_mid}
 use Rattle.std.proofs.Math.IntN.{nat_abs}
 use Rattle.std.proofs.Math.ListN.{get_or-eq_default}
 use Rattle.area.specs.Area.{at, size_at, Bits, zero_bit, word_of}
-use Rattle.area.specs.AreaLaws.{bit_lt, bit-word_of, word_of_word}
+use Rattle.area.proofs.AreaLaws.{bit_lt, bit-word_of, word_of_word}
 use Rattle.words.specs.Butterflies.{Entries, halved}
 use Rattle.words.specs.ButterflyLaws.{halved_entries}
 use Rattle.words.specs.SumLaws.{all_ext, le_or_lt}

@@ -3,7 +3,7 @@ use Rattle.std.specs.Prelude.{ℕ, ◌≤◌, ◌<◌, ◌≡◌, refl, Bool, tr
 use Rattle.std.proofs.Common.{arith, sym, subst, ◌∙◌, ltb-true, ltb-false, ne_eqb}
 use Rattle.rule.specs.Reading.{Outcome, abstains, accepted, refused, leaves_of}
 use Rattle.rule.specs.Decoding.{limited}
-use Rattle.rule.specs.DecodingLaws.{limited_cases}
+use Rattle.rule.proofs.DecodingLaws.{limited_cases}
 use Rattle.told.specs.Told.{noise_number, numbers_of, numbers_in}
 use Rattle.told.specs.ToldLaws.{noise_number_lem}
 use Rattle.told.specs.declared.Noise.{Noise}

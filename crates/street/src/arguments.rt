@@ -1,4 +1,5 @@
 // The program's arguments.
+use std::env::{Env, FillError};
 use street_settings::{Argument, Asked, Settings};
 
 // The settings that the arguments ask, or the number of the first argument that is bad.
@@ -9,26 +10,26 @@ pub enum Given {
     TooMany(usize),
 }
 
-// What argument i says after those before it. One of more than 4,096 bytes is taken for no number.
-fn next(i: usize, so_far: Asked) -> Argument {
-    let mut text = io::buffer();
-    let n = os::arg(i, &mut text);
-    if os::errno() != 0 {
-        return Argument::NotNumber;
+// What argument i says after those before it; nothing where there is no such argument. One of more than 4,096 bytes is taken for no number.
+fn next(rt: &impl Env, i: usize, so_far: Asked) -> Option<Argument> {
+    let mut text = [0u8; 4096];
+    match rt.arg(i, &mut text) {
+        Ok(n) => Some(street_settings::take(so_far, &text[..n])),
+        Err(FillError::TooLong) => Some(Argument::NotNumber),
+        Err(FillError::NotPresent) => None,
     }
-    street_settings::take(so_far, &text[..n])
 }
 
 // All arguments, up to the first that is bad.
-pub fn read() -> Given {
+pub fn read(rt: &impl Env) -> Given {
     let mut asked = street_settings::begin();
-    for i in 1..os::arg_count() {
-        match next(i, asked) {
-            Argument::Taken(more) => asked = more,
-            Argument::NotNumber => return Given::NotNumber(i),
-            Argument::TooMany => return Given::TooMany(i),
+    for i in 1..usize::MAX {
+        match next(rt, i, asked) {
+            Some(Argument::Taken(more)) => asked = more,
+            Some(Argument::NotNumber) => return Given::NotNumber(i),
+            Some(Argument::TooMany) => return Given::TooMany(i),
+            None => break,
         }
     }
-    let settings = asked.settings;
-    Given::Settings(settings)
+    Given::Settings(asked.settings)
 }

@@ -1,64 +1,43 @@
-// What is said on standard error where the settings are bad.
-use libc::STDERR_FILENO;
+// What is said on standard error where the settings are bad. A write to it that fails is let go.
 use refusals::Refusal;
 
 // How the program is called.
-fn usage() {
-    io::write_all(
-        STDERR_FILENO,
-        b"usage: street [summary] [PROFILE [WRONG [METERS [RETRIES [START]]]]]\n",
-    );
+fn usage(rt: &impl Eprint) {
+    let _ = eprintln!(rt; "usage: street [summary] [PROFILE [WRONG [METERS [RETRIES [START]]]]]");
 }
 
 // Which argument is bad.
-fn argument(i: usize) {
-    io::write_all(STDERR_FILENO, b"street: argument ");
-    io::print_decimal(STDERR_FILENO, i as u64);
+fn argument(rt: &impl Eprint, i: usize) {
+    let _ = eprint!(rt; "street: argument {i}");
 }
 
-pub fn not_number(i: usize) {
-    argument(i);
-    io::write_all(
-        STDERR_FILENO,
-        b" is neither a number from 0 to 4294967295 nor the word summary\n",
-    );
-    usage();
+pub fn not_number(rt: &impl Eprint, i: usize) {
+    argument(rt, i);
+    let _ = eprintln!(rt; " is neither a number from 0 to 4294967295 nor the word summary");
+    usage(rt);
 }
 
-pub fn too_many(i: usize) {
-    argument(i);
-    io::write_all(STDERR_FILENO, b" is a sixth number\n");
-    usage();
+pub fn too_many(rt: &impl Eprint, i: usize) {
+    argument(rt, i);
+    let _ = eprintln!(rt; " is a sixth number");
+    usage(rt);
 }
 
 // The limit that the settings pass.
-fn limit(number: u8) {
-    if number == 14 {
-        io::write_all(STDERR_FILENO, b"profiles are 0 to 4");
-    }
-    if number == 21 {
-        io::write_all(STDERR_FILENO, b"the start is 1 or more");
-    }
-    if number == 22 {
-        io::write_all(
-            STDERR_FILENO,
-            b"no more places can be wrong than a block of the profile has",
-        );
-    }
-    if number == 23 {
-        io::write_all(STDERR_FILENO, b"meters are 1 to 256");
-    }
-    if number == 24 {
-        io::write_all(STDERR_FILENO, b"retries are 0 to 15");
+fn limit(number: u8) -> &'static str {
+    match number {
+        14 => "profiles are 0 to 4",
+        21 => "the start is 1 or more",
+        22 => "no more places can be wrong than a block of the profile has",
+        23 => "meters are 1 to 256",
+        24 => "retries are 0 to 15",
+        _ => "",
     }
 }
 
 // The refusal's number, and the limit.
-pub fn refused(why: Refusal) {
+pub fn refused(rt: &impl Eprint, why: Refusal) {
     let number = refusals::number(why);
-    io::write_all(STDERR_FILENO, b"street: refused ");
-    io::print_decimal(STDERR_FILENO, number as u64);
-    io::write_all(STDERR_FILENO, b": ");
-    limit(number);
-    io::write_all(STDERR_FILENO, b"\n");
+    let limit = limit(number);
+    let _ = eprintln!(rt; "street: refused {number}: {limit}");
 }

@@ -1,5 +1,6 @@
 // What a planner reads of a street: a line for each step, and the summary.
 #![tactic(auto)]
+
 ghost use Rattle.std.specs.Prelude.{◌≡◌, ◌+◌, ◌≤◌, ◌++◌, length, eqb};
 ghost use Rattle.words.specs.Word.{indicator};
 ghost use Rattle.text.specs.Numbers.{decimal};

@@ -5,7 +5,7 @@ use Rattle.std.proofs.Math.Path.{refl, sym, ap}
 use Rattle.std.proofs.lemmas.Bool.{false≢true}
 use Rattle.std.proofs.Math.ListN.{replicate}
 use Rattle.refusals.specs.Refusals.{Check, Checked, check, first_refusal}
-use Rattle.refusals.specs.CheckLaws.{number_pos, rest_passed}
+use Rattle.refusals.proofs.CheckLaws.{number_pos, rest_passed}
 use Rattle.refusals.specs.declared.Answer.{Answer}
 use Rattle.refusals.specs.declared.Answer.TheVariants.{Done, Refused}
 use Rattle.refusals.specs.declared.Refusal.{Refusal}

@@ -1,5 +1,6 @@
 // Runs of a street from its start: so many steps at most, their log and counts.
 #![tactic(auto)]
+
 ghost use Rattle.std.specs.Prelude.{[]};
 ghost use Rattle.refusals.specs.Refusals.{Checked};
 ghost use Rattle.tables.specs.Slots.{Proper};

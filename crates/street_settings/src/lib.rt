@@ -1,5 +1,6 @@
 // The settings of a street, from the arguments of a program: numbers in decimal, and one word.
 #![tactic(auto)]
+
 ghost use Rattle.std.specs.Prelude.{◌≡◌, true, ◌<◌, length};
 ghost use Rattle.words.specs.Sum.{all_below};
 ghost use Rattle.words.specs.Word.{bit};

@@ -3,15 +3,16 @@ use Rattle.std.specs.Prelude.{ℕ, ◌*◌, ◌^◌, ◌≤◌, ◌≡◌, refl,
 use Rattle.std.proofs.Common.{sym, ap, ◌∙◌, eq-eqb, eqb-true}
 use Rattle.std.proofs.lemmas.Bool.{false≢true}
 use Rattle.words.specs.Word.{IsWord, distance}
-use Rattle.words.specs.WordLaws.{distance_none}
-use Rattle.code.specs.Distance.{distance_self}
+use Rattle.words.proofs.WordLaws.{distance_none}
+use Rattle.code.proofs.Distance.{distance_self}
 use Rattle.profiles.specs.declared.Profile.{Profile}
 use Rattle.tables.specs.declared.Table.{Table}
 use Rattle.tables.specs.Tables.{entry_of, known}
 use Rattle.rule.specs.Reading.{accepted}
 use Rattle.rule.specs.Decoding.{decode_of}
-use Rattle.rule.specs.DecodingLaws.{RightSizes, call_is}
-use Rattle.rule.specs.Demand3.{decode_sound}
+use Rattle.rule.specs.RightSizes.{RightSizes}
+use Rattle.rule.proofs.DecodingLaws.{call_is}
+use Rattle.rule.proofs.Demand3.{decode_sound}
 use Rattle.table_decoder.specs.Table.{decode_table_call}
 use Rattle.table_decoder.specs.TableLaws.{known_call}
 use Rattle.load.specs.Load.{sent_from}

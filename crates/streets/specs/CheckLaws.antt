@@ -3,7 +3,7 @@ use Rattle.std.specs.Prelude.{ℕ, ◌*◌, ◌≤◌, ◌<◌, ◌≡◌, refl,
 use Rattle.std.proofs.Common.{sym, ap, eq-eqb, eqb-true, le-leb, leb-true, ne_eqb}
 use Rattle.std.proofs.lemmas.Bool.{eqb-false, lt-leb, not-true}
 use Rattle.refusals.specs.Refusals.{Checked, first_refusal}
-use Rattle.refusals.specs.CheckLaws.{all_pass, fails, no_more, passed, passes, refuses}
+use Rattle.refusals.proofs.CheckLaws.{all_pass, fails, no_more, passed, passes, refuses}
 use Rattle.refusals.specs.declared.Answer.TheVariants.{Done, Refused}
 use Rattle.refusals.specs.declared.Refusal.TheVariants.{AreaLength, Meters, OutputLength, Retries}
 use Rattle.tables.specs.declared.Slot.{Slot}

@@ -7,7 +7,7 @@ use Rattle.std.proofs.Math.ListN.{get_or-eq_default}
 use Rattle.words.specs.Parts.{front_length}
 use Rattle.words.specs.Word.{IsWord, bit, distance}
 use Rattle.refusals.specs.Refusals.{number_of}
-use Rattle.refusals.specs.CheckLaws.{number_pos}
+use Rattle.refusals.proofs.CheckLaws.{number_pos}
 use Rattle.refusals.specs.declared.Decoded.{Decoded}
 use Rattle.refusals.specs.declared.Decoded.TheVariants.{Accepted, Refused}
 use Rattle.refusals.specs.declared.Refusal.{Refusal}
@@ -15,8 +15,8 @@ use Rattle.profiles.specs.declared.Profile.{Profile}
 use Rattle.rule.specs.Reading.{Outcome, accepted, refused}
 use Rattle.rule.specs.Calls.{Decodes, values_of}
 use Rattle.rule.specs.Decoding.{answer_of, decode_call, decode_of, number_in, output_of}
-use Rattle.rule.specs.DecodingLaws.{call_is}
-use Rattle.rule.specs.Demand3.{Sound, decode_sound}
+use Rattle.rule.proofs.DecodingLaws.{call_is}
+use Rattle.rule.proofs.Demand3.{Sound, decode_sound}
 use Rattle.table_decoder.specs.TableLaws.{entry_area}
 use Rattle.generator.specs.declared.Places.{Places}
 use Rattle.load.specs.LoadLaws.{block_word, sent_codeword}

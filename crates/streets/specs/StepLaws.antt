@@ -4,7 +4,7 @@ use Rattle.std.proofs.Common.{add-one, arith, ap, subst}
 use Rattle.std.proofs.lemmas.Bool.{false≢true}
 use borrow.Author.Tests.{eq-eqb, ltb-true, ne_eqb}
 use Rattle.refusals.specs.Refusals.{first_refusal, number_of}
-use Rattle.refusals.specs.CheckLaws.{number_pos}
+use Rattle.refusals.proofs.CheckLaws.{number_pos}
 use Rattle.refusals.specs.declared.Refusal.{Refusal}
 use Rattle.tables.specs.declared.Slot.{Slot}
 use Rattle.streets.specs.State.{Leaves, Showing, Steps, next_due, refused, room_checks, sender_of, setting_checks, shows, shows_by}

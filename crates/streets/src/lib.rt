@@ -1,5 +1,6 @@
 // Streets tried out before the digging: meters that send in turn, each block the next of one load, one block a step.
 #![tactic(auto)]
+
 ghost use Rattle.std.specs.Prelude.{◌≡◌};
 ghost use Rattle.tables.specs.Tables.{ours, slot_of};
 ghost use Rattle.streets.specs.State.{Steps, begins};

@@ -4,7 +4,7 @@ use Rattle.std.proofs.Common.{sym, ap, ◌∙◌, arith, le-leb, ne_eqb}
 use Rattle.std.proofs.lemmas.Bool.{lt-leb}
 use Rattle.words.specs.Word.{add_words}
 use Rattle.code.specs.Code.{IsCodeword}
-use Rattle.refusals.specs.CheckLaws.{no_more, other_place, passes, fails, then}
+use Rattle.refusals.proofs.CheckLaws.{no_more, other_place, passes, fails, then}
 use Rattle.refusals.specs.Refusals.{code_checks, first_refusal}
 use Rattle.refusals.specs.declared.Decoded.{Decoded}
 use Rattle.refusals.specs.declared.Decoded.TheVariants.{Refused}
@@ -16,11 +16,12 @@ use Rattle.tables.specs.Tables.{entry_of, known, none, ours, slot_of, some}
 use Rattle.tables.specs.Limits.{InLimits, is_known, ours-known, ours_entry}
 use Rattle.tables.specs.Slots.{slot_known}
 use Rattle.rule.specs.Reading.{Outcome, accepted, reading, refused}
-use Rattle.rule.specs.Counts.{ByNoise, reading_noise}
+use Rattle.rule.proofs.Counts.{ByNoise, reading_noise}
 use Rattle.rule.specs.Decoding.{after, area_of, buffer_checks, decode_call, decode_of, decode_profile_call, limit_checks, zeros}
-use Rattle.rule.specs.DecodingLaws.{RightSizes, after_same, limited_cases}
+use Rattle.rule.specs.RightSizes.{RightSizes}
+use Rattle.rule.proofs.DecodingLaws.{after_same, limited_cases}
 use Rattle.rule.specs.Calls.{Decodes}
-use Rattle.rule.specs.Demand3.{Agree, demand_3_call}
+use Rattle.rule.proofs.Demand3.{Agree, demand_3_call}
 use Rattle.table_decoder.specs.Table.{table_checks, decode_table_call}
 
 -- the code and the limits of an entry pass the checks

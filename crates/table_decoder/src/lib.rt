@@ -1,5 +1,6 @@
 // The decoder under a table of profiles.
 #![tactic(auto)]
+
 ghost use Rattle.std.specs.Prelude.{length};
 ghost use Rattle.rule.specs.Calls.{Decodes};
 ghost use Rattle.tables.specs.Tables.{entry_of};

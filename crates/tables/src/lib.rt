@@ -1,5 +1,6 @@
 // Tables of profiles: what a table has at a number, and document 01's table.
 #![tactic(auto)]
+
 ghost use Rattle.std.specs.Prelude.{◌≡◌};
 ghost use Rattle.tables.specs.Tables.{in_limits, slot_of};
 ghost use Rattle.tables.specs.Slots.{slot_by};

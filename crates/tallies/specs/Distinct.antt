@@ -40,7 +40,7 @@ module _ {k n : ℕ} {g : ℕ → ℕ} (d : Distinct (suc k) (suc n) g) where
 pub distinct_most : {k n : ℕ} {g : ℕ → ℕ} → Distinct k n g → k ≤ n
 distinct_most {k = zero} d = omega arith
 distinct_most {k = suc k} {n = zero} d = absurd (not-suc-le-zero (d.below 0 (omega arith)))
-distinct_most {k = suc k} {n = suc n} d = omega (arith, distinct_most (less d))
+distinct_most {k = suc k} {n = suc n} d = omega (arith, distinct_most {k = k} (less d))
 
 -- with a number below n that is none of them there is one more
 module _ {k n : ℕ} {g : ℕ → ℕ} (d : Distinct k n g) (p : ℕ) (l : p < n) (other : (i : ℕ) → i < k → g i ≢ p) where

@@ -1,5 +1,6 @@
 // Sixteen places for tallies under names of 8 bytes.
 #![tactic(auto)]
+
 ghost use Rattle.std.specs.Prelude.{◌≡◌, ◌<◌};
 ghost use Rattle.tallies.specs.Store;
 ghost use Rattle.tallies.specs.Store.{kept, same_name, where_held, free_place, room_for, freed, empty_store, saved, returned, dropped};

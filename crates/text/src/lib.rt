@@ -1,5 +1,6 @@
 // Digits, bytes and texts, put after what a buffer holds already.
 #![tactic(auto)]
+
 ghost use Rattle.std.specs.Prelude.{◌≡◌, [], ◌∷◌, ◌+◌, ◌-◌, ◌/◌, ◌%◌, ◌^◌, ◌≤◌, ◌<◌, length};
 ghost use Rattle.text.specs.Numbers.{ten_digits, decimal};
 ghost use Rattle.text.specs.Texts.{Appended};

@@ -7,7 +7,7 @@ use Rattle.words.specs.SumLaws.{bit_tabulate, length-tabulate}
 use Rattle.refusals.specs.Refusals.{area_kept}
 use Rattle.rule.specs.Reading.{Outcome, accepted, constant, leaves_of}
 use Rattle.rule.specs.Decoding.{limited}
-use Rattle.rule.specs.DecodingLaws.{limited_above, limited_within}
+use Rattle.rule.proofs.DecodingLaws.{limited_above, limited_within}
 use Rattle.told.specs.Told.{noise_number, numbers_of, numbers_in, Holds, Read, Kept}
 use Rattle.told.specs.declared.Noise.{Noise}
 use Rattle.told.specs.declared.Noise.TheVariants.{Tie, Flipping, Unsettled, TooManyLeaves, Erased}

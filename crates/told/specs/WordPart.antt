@@ -4,7 +4,7 @@ use Rattle.std.proofs.Common.{ap, ◌∙◌, arith}
 use borrow.Rule.Slice.PartMut.{put_mid}
 use Rattle.words.specs.Parts.{part_length, at-part_of, back_length, back_within}
 use Rattle.area.specs.Area.{at, Bits, SameFront, word_of}
-use Rattle.area.specs.AreaLaws.{word_of_same}
+use Rattle.area.proofs.AreaLaws.{word_of_same}
 use Rattle.rule.specs.Reading.{Outcome, accepted, refused}
 use Rattle.told.specs.Told.{Holds, Read, Kept}
 use Rattle.told.specs.declared.Told.{Told}

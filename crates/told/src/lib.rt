@@ -1,5 +1,6 @@
 // What a reading tells: its answer, and whether it kept its word.
 #![tactic(auto)]
+
 ghost use Rattle.std.specs.Prelude.{false, ◌≡◌};
 
 // Document 01, "The noise": why a reading gives no word. Of document 02's confidences, that one of them ended as 0.

@@ -1,5 +1,7 @@
 -- What a program that lists its input keeps from turn to turn. Assumes nothing.
 use Rattle.std.specs.Prelude.{ℕ, ◌+◌, ◌-◌, ◌^◌, ◌≤◌, min, ◌≡◌, true, false, cond, ◌||◌, List, eqb, length, take, drop}
+use Rattle.std.specs.Prelude.{Bool, Option}
+use Rattle.std.specs.Io.KnownBytes.{IsAtEnd}
 use Rattle.turns.specs.declared.State.{State}
 
 -- a count, and no more than 64 bits hold
@@ -30,3 +32,7 @@ came s t after = take (t.held - s.held) (drop s.held after)
 pub record Came (held : ℕ) (before after : List ℕ) (n : ℕ) : Type 0 where
   pub within : held + n ≤ length after
   pub kept : take held after ≡ take held before
+
+-- an input that is taken to have ended has no byte left that is known, unless a read of it failed
+abbrev pub ReadOut : Bool → Bool → Option (List ℕ) → Type 0
+ReadOut last failed known = last ≡ true → failed ≡ false → IsAtEnd known

@@ -1,5 +1,6 @@
 // The bits of a record, packed eight to a byte, unpacked into a word.
 #![tactic(auto)]
+
 ghost use Rattle.std.specs.Prelude.{◌≡◌, ◌+◌, ◌-◌, ◌/◌, ◌%◌, ◌^◌, ◌≤◌, length};
 ghost use Rattle.words.specs.Sum.{tabulate};
 ghost use Rattle.unpacking.specs.Packed.{packed_bit};

@@ -9,18 +9,20 @@ use Rattle.std.proofs.lemmas.Bool.{eqb-false, not-true}
 use Rattle.words.specs.Sum.{all_below, total}
 use Rattle.words.specs.SumLaws.{all_append, all_more, all_true, both_true}
 use Rattle.area.specs.Area.{at}
-use Rattle.area.specs.AreaLaws.{bit_stored, is_bit, xor_stored}
+use Rattle.area.proofs.AreaLaws.{bit_stored, is_bit, xor_stored}
 use Rattle.area.specs.Numbers.{stored, stored-eq}
 use Rattle.code.specs.Code.{codeword_test}
-use Rattle.code.specs.Codewords.{codeword_of_test}
-use Rattle.code.specs.FirstOrder.{levels_test_lem, levels_test, repeats, repeats_below}
+use Rattle.code.proofs.Codewords.{codeword_of_test}
+use Rattle.code.specs.FirstOrder.{levels_test, repeats, repeats_below}
+use Rattle.code.proofs.FirstOrderLaws.{levels_test_lem}
 use Rattle.hadamard.specs.Correlation.{constant_of}
 use Rattle.hadamard.specs.CorrelationLaws.{constant_of-lt}
 use Rattle.rule.specs.Reading.{accepted, order1}
 use Rattle.confidences.specs.Confidences.{signs_of}
-use Rattle.confidences.specs.Clean.{clean_values}
-use Rattle.confidences.specs.Counts.{full_leaves}
-use Rattle.confidences.specs.Rounds.{Nonzero, bit_signs, reading_one, signs_word}
+use Rattle.confidences.proofs.Clean.{clean_values}
+use Rattle.confidences.proofs.Counts.{full_leaves}
+use Rattle.confidences.specs.Blocks.{Nonzero}
+use Rattle.confidences.proofs.Rounds.{bit_signs, reading_one, signs_word}
 use Rattle.confidences.specs.Values.{Values}
 use Rattle.value_orders.specs.Leaves.{Leaf, clean_test, is_some, sign_at}
 

@@ -15,7 +15,7 @@ use Rattle.words.specs.SumLaws.{get_or-tabulate, length-tabulate}
 use Rattle.words.specs.TopBit.{ones_top, ones-zero}
 use Rattle.words.specs.Written.{Written, written_none, written_run, written_to, written_as, written_all}
 use Rattle.area.specs.Area.{at, Bits}
-use Rattle.area.specs.AreaLaws.{is_bit}
+use Rattle.area.proofs.AreaLaws.{is_bit}
 use Rattle.area.specs.Numbers.{stored}
 use Rattle.affine.specs.Affine.{affine_at}
 use Rattle.value_orders.specs.Doubling.{IsSign, plus, minus, Doubles, PowerOfTwo, turned}

@@ -4,11 +4,11 @@ use Rattle.std.proofs.Common.{sym, ◌∙◌, arith, get_or-take}
 use Rattle.std.proofs.Math.Path.{ap}
 use Rattle.std.proofs.Math.Dec.{eqb}
 use Rattle.words.specs.Sum.{first_where}
-use Rattle.words.specs.Search.{first_where_lem, where_ext}
+use Rattle.words.proofs.Search.{first_where_lem, where_ext}
 use Rattle.words.specs.SumLaws.{split_last}
 use Rattle.words.specs.Written.{Written}
 use Rattle.area.specs.Area.{at, Bits, Front, SameFront, word_of}
-use Rattle.area.specs.AreaLaws.{front_bits, front_kept, front_word}
+use Rattle.area.proofs.AreaLaws.{front_bits, front_kept, front_word}
 use Rattle.area.specs.Numbers.{stored, stored-eq}
 use Rattle.code.specs.Code.{codeword_test}
 use Rattle.hadamard.specs.Correlation.{constant_of}
@@ -17,8 +17,8 @@ use Rattle.told.specs.declared.Noise.TheVariants.{Erased, Unsettled}
 use Rattle.told.specs.declared.Verdict.{Verdict}
 use Rattle.told.specs.declared.Verdict.TheVariants.{Accepted, Refused}
 use Rattle.confidences.specs.Confidences.{cut, ended, lowest_zero, signs_of}
-use Rattle.confidences.specs.Rounds.{bit_signs, signs_word, ended_zero, ended_codeword, ended_other}
-use Rattle.confidences.specs.Signs.{cut_size}
+use Rattle.confidences.proofs.Rounds.{bit_signs, signs_word, ended_zero, ended_codeword, ended_other}
+use Rattle.confidences.proofs.Signs.{cut_size}
 use Rattle.confidences.specs.Values.{front_of, Sums}
 use Rattle.value_orders.specs.Leaves.{place_in}
 

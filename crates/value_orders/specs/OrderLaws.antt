@@ -20,7 +20,7 @@ use Rattle.hadamard.specs.CorrelationLaws.{constant_of_negative, constant_of_oth
 use Rattle.hadamard.specs.Peak.{peak}
 use Rattle.peaks.specs.Stored.{as_it_is, word_zero, zero_word}
 use Rattle.rule.specs.Reading.{Outcome, accepted, by_sum, constant, order0, order1, refused}
-use Rattle.rule.specs.Order1.{order1_alone, order1_shared, sizes}
+use Rattle.rule.proofs.Order1.{order1_alone, order1_shared, sizes}
 use Rattle.told.specs.Told.{Read}
 use Rattle.told.specs.ToldLaws.{constant_read}
 use Rattle.told.specs.declared.Noise.TheVariants.{Tie}

@@ -13,7 +13,8 @@ use Rattle.peaks.specs.Peaks.{IsPeak, Pairs, pairs_joined}
 use Rattle.peaks.specs.Joined.{joined_whole}
 use Rattle.peaks.specs.SamePeak.{peak_ext}
 use Rattle.confidences.specs.Confidences.{greatest}
-use Rattle.confidences.specs.Range.{InRange, correlation_small}
+use Rattle.confidences.specs.InRange.{InRange}
+use Rattle.confidences.proofs.Range.{correlation_small}
 
 -- the values xs of exponent k + 1, with halves of h numbers
 pub record Halves (k h : ℕ) (xs : List ℤ) : Type 0 where

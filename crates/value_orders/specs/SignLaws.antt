@@ -8,7 +8,7 @@ use Rattle.std.specs.Int.{w32}
 use Rattle.words.specs.Sum.{tabulate}
 use Rattle.words.specs.SumLaws.{get_or-tabulate}
 use Rattle.area.specs.Area.{at, IsBit, zero_bit, one_bit}
-use Rattle.area.specs.AreaLaws.{bit_back, bit_lt, is_bit}
+use Rattle.area.proofs.AreaLaws.{bit_back, bit_lt, is_bit}
 use Rattle.area.specs.Numbers.{negated_fits, stored}
 use Rattle.hadamard.specs.Correlation.{constant_of, correlation}
 use Rattle.hadamard.specs.AffineWords.{bit-affine, word_affine}

@@ -1,5 +1,6 @@
 // Orders 0 and 1 of confidences in the area: by the sum, and by the greatest correlation.
 #![tactic(auto)]
+
 ghost use Rattle.std.specs.Prelude.{◌≤◌, ◌^◌, ◌≡◌, length};
 ghost use Rattle.words.specs.Sum.{sum_below_ℤ};
 ghost use Rattle.area.specs.Area.{at};

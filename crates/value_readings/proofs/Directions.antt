@@ -12,7 +12,7 @@ use Rattle.words.specs.Written.{Written}
 use Rattle.area.specs.Area.{at, SameFront}
 use Rattle.rule.specs.Reading.{Outcome, abstains, leaves_of}
 use Rattle.rule.specs.Decoding.{limited}
-use Rattle.rule.specs.DecodingLaws.{limited_within}
+use Rattle.rule.proofs.DecodingLaws.{limited_within}
 use Rattle.told.specs.Told.{numbers_in}
 use Rattle.steps.specs.Answers.{count_is, counted, limited_numbered, spent}
 use Rattle.steps.specs.Steps.{count_in, count_of, Voter}
@@ -20,9 +20,9 @@ use Rattle.steps.specs.declared.Count.{Count}
 use Rattle.steps.specs.declared.Count.TheVariants.{Done, Exhausted}
 use Rattle.confidences.specs.Confidences.{project_values, reading, round_leaves}
 use Rattle.confidences.specs.Confidences as confidences
-use Rattle.confidences.specs.Range.{project_range}
-use Rattle.confidences.specs.Rounds.{leaves_all, leaves_to, leaves_to_more, leaves_to_none, leaves_to_prefix, project_block}
-use Rattle.confidences.specs.ValueLaws.{front_is, front_values, same_front}
+use Rattle.confidences.proofs.Range.{project_range}
+use Rattle.confidences.proofs.Rounds.{leaves_all, leaves_to, leaves_to_more, leaves_to_none, leaves_to_prefix, project_block}
+use Rattle.confidences.proofs.ValueLaws.{front_is, front_values, same_front}
 use Rattle.confidences.specs.Values.{Projects, Sums, front_of}
 use Rattle.value_orders.specs.declared.ends.Ended.{Ended}
 use Rattle.value_readings.specs.AnswerLaws.{Answered, answer_asks, answer_more}
@@ -30,6 +30,7 @@ use Rattle.value_readings.specs.Polls.{Heard, Polled, Renewed, Rounded, new_at, 
 use Rattle.value_readings.specs.PollLaws.{poll_first, poll_last, poll_projects, poll_range, poll_sums, polled_few, polled_from, polled_then, round_spent, written_front}
 use Rattle.value_readings.specs.Answers.{reading_unlimited}
 use Rattle.value_readings.specs.Readings.{Ready, ReadsValues}
+use Rattle.value_readings.proofs.Turns.{ready_rounded}
 
 -- ---- a round
 
@@ -142,6 +143,25 @@ pub record Came (f : Round) (xs ys zs us : List ℤ) (i used absent c : ℕ) (to
   pub lent : Lent f xs ys zs i used absent c
   pub same : length us ≡ length (rest c zs)
   pub reads : ReadsValues f.m f.r f.limit (f.left - used) (front_of (2 ^ f.m) (rest c zs)) us told
+
+-- the same from what the code knows, with n for 2^m
+abbrev pub round_of : (m r limit left : ℕ) → List ℤ → Round
+round_of m r limit left ys = record { m = m; r = r; limit = limit; left = left; area = ys }
+
+module _ {m r left n : ℕ} {xs ws : List ℤ} (limit : ℕ) (ready : Ready (suc m) (suc r) left xs) (some : 1 ≤ r) (size : n ≡ 2 ^ m)
+    (cleared : Written (pos 0) (2 ^ suc m) (2 ^ suc m) (λ p. pos 0) xs ws) where
+  pub from_of : From (round_of m r limit left ws) xs
+  from_of = record { order = omega (arith, ready.order); cap = ready.few; given = ready_rounded ready some; cleared = cleared }
+
+  module _ {ys zs : List ℤ} {i used absent : ℕ} (progress : Progress (round_of m r limit left ws) ys i used absent) (more : i < 2 * n - 1)
+      (projected : Written (pos 0) (4 * n) (2 ^ m) (at (project_values m (i + 1) (front_of (2 ^ suc m) ys))) ys zs) where
+    pub lent_of : Lent (round_of m r limit left ws) xs ys zs i used absent (4 * n)
+    lent_of = record { from = from_of; progress = progress; more = omega (arith, size); place = omega (arith, size); projected = projected }
+
+    pub came_of : {us : List ℤ} {told : Ended} → length us ≡ length (rest (4 * n) zs)
+        → ReadsValues m r limit (left - used) (front_of (2 ^ m) (rest (4 * n) zs)) us told
+        → Came (round_of m r limit left ws) xs ys zs us i used absent (4 * n) told
+    came_of same reads = record { lent = lent_of; same = same; reads = reads }
 
 module _ {f : Round} {xs ys zs us : List ℤ} {i used absent c : ℕ} {told : Ended} (came : Came f xs ys zs us i used absent c told) where
   open f use {m, r, limit, left, area}

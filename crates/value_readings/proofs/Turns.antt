@@ -10,9 +10,9 @@ use lib.ListN.{length}
 use lib.IntN.{ℤ, pos}
 use lib.Seq.{get_or-take}
 use Rattle.area.specs.Area.{at}
-use Rattle.rule.specs.Counts.{Leaf, leaf_leaves}
+use Rattle.rule.proofs.Counts.{Leaf, leaf_leaves}
 use Rattle.rule.specs.Decoding.{limited}
-use Rattle.rule.specs.DecodingLaws.{limited_above, limited_within}
+use Rattle.rule.proofs.DecodingLaws.{limited_above, limited_within}
 use Rattle.rule.specs.Reading.{Outcome, accepted, leaves_of, order0, order1, refused}
 use Rattle.told.specs.Told.{Read}
 use Rattle.told.specs.ToldLaws.{read_above}
@@ -23,10 +23,11 @@ use Rattle.steps.specs.Answers.{counted, spent}
 use Rattle.steps.specs.declared.Count.{Count}
 use Rattle.steps.specs.declared.Count.TheVariants.{Done, Exhausted}
 use Rattle.confidences.specs.Confidences.{abstained, ended, leaves_after, lowest_zero, reading, round_leaves, updated, values_after, zero_place}
-use Rattle.confidences.specs.Counts.{reading_leaf}
-use Rattle.confidences.specs.Range.{after_range}
-use Rattle.confidences.specs.Rounds.{IsBlock, after_block, ended_leaves, leaves_more, leaves_none, leaves_prefix, place_above, reading_above, reading_one, reading-zero, values_more, values_none}
-use Rattle.confidences.specs.ValueLaws.{front_block, front_is, front_range, front_values}
+use Rattle.confidences.proofs.Counts.{reading_leaf}
+use Rattle.confidences.proofs.Range.{after_range}
+use Rattle.confidences.specs.Blocks.{IsBlock}
+use Rattle.confidences.proofs.Rounds.{after_block, ended_leaves, leaves_more, leaves_none, leaves_prefix, place_above, reading_above, reading_one, reading-zero, values_more, values_none}
+use Rattle.confidences.proofs.ValueLaws.{front_block, front_is, front_range, front_values}
 use Rattle.confidences.specs.Values.{Values, front_of}
 use Rattle.value_orders.specs.declared.ends.Ended.{Ended}
 use Rattle.value_readings.specs.Polls.{Renewed, Rounded}

@@ -11,10 +11,10 @@ use Rattle.words.specs.Parts.{part_length, at-part_of, written_part}
 use Rattle.words.specs.Sum.{total}
 use Rattle.words.specs.Written.{Written, written_none, written_to}
 use Rattle.area.specs.Area.{at, Bits, IsBit, SameFront}
-use Rattle.area.specs.AreaLaws.{is_bit}
+use Rattle.area.proofs.AreaLaws.{is_bit}
 use Rattle.cosets.specs.Votes.{InProjection}
 use Rattle.direction.specs.Direction.{coset_of}
-use Rattle.direction.specs.Members.{number_lt}
+use Rattle.direction.proofs.Members.{number_lt}
 use Rattle.hadamard.specs.Correlation.{constant_of, signed}
 use Rattle.rule.specs.Reading.{Outcome, abstains}
 use Rattle.told.specs.Told.{Holds, numbers_in, numbers_of}
@@ -24,7 +24,7 @@ use Rattle.told.specs.declared.Verdict.TheVariants.{Accepted, Refused}
 use Rattle.steps.specs.Answers.{Numbered, by_answer}
 use Rattle.steps.specs.Steps.{Voter}
 use Rattle.confidences.specs.Confidences.{read, share}
-use Rattle.confidences.specs.ValueLaws.{same_values}
+use Rattle.confidences.proofs.ValueLaws.{same_values}
 use Rattle.confidences.specs.Values.{Projects, Sums, front_of, heard_at}
 use Rattle.value_orders.specs.SignLaws.{sign_bit}
 use Rattle.value_readings.specs.LeafLaws.{hear_asks, kept_front}

@@ -15,14 +15,16 @@ use Rattle.words.specs.SumLaws.{sum_ext, sum_same, sum_ℤ_ext}
 use Rattle.words.specs.Written.{Written}
 use Rattle.area.specs.Area.{at, SameFront}
 use Rattle.direction.specs.Direction.{coset_of}
-use Rattle.direction.specs.Members.{number_lt}
+use Rattle.direction.proofs.Members.{number_lt}
 use Rattle.hadamard.specs.Correlation.{constant_of, signed}
-use Rattle.rule.specs.Counts.{leaf_leaves, order1_leaf}
+use Rattle.rule.proofs.Counts.{leaf_leaves, order1_leaf}
 use Rattle.rule.specs.Reading.{Outcome, abstains, accepted, refused}
 use Rattle.confidences.specs.Confidences.{project_values, read, round_leaves, share}
-use Rattle.confidences.specs.Range.{InRange, project_range}
-use Rattle.confidences.specs.Rounds.{IsBlock, block_ext, project_block}
-use Rattle.confidences.specs.ValueLaws.{same_front, same_values}
+use Rattle.confidences.specs.InRange.{InRange}
+use Rattle.confidences.proofs.Range.{project_range}
+use Rattle.confidences.specs.Blocks.{IsBlock}
+use Rattle.confidences.proofs.Rounds.{block_ext, project_block}
+use Rattle.confidences.proofs.ValueLaws.{same_front, same_values}
 use Rattle.confidences.specs.Values.{Projects, ProjectsFour, Sums, four_projected, front_of, heard_at}
 use Rattle.value_steps.specs.Shares.{word_at, words_at}
 use Rattle.value_orders.specs.Leaves.{Leaf}

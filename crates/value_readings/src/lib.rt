@@ -2,6 +2,7 @@
 // A reading at exponent m has its values in the first 2^m numbers of its area; above order 1 the next 2^m are sums, and what is left is
 // lent to the readings one order lower.
 #![tactic(auto)]
+
 ghost use Rattle.std.specs.Prelude.{◌≡◌, suc, ◌^◌, ◌≤◌};
 ghost use Rattle.confidences.specs.Confidences;
 ghost use Rattle.confidences.specs.Values.{front_of};

@@ -13,7 +13,7 @@ use mir.Syntax.{w64}
 use mir.Val.{Fits}
 use Rattle.words.specs.Written.{Written}
 use Rattle.area.specs.Area.{at, four_of}
-use Rattle.area.specs.AreaLaws.{four_as}
+use Rattle.area.proofs.AreaLaws.{four_as}
 use Rattle.area.specs.Numbers.{stored, stored-eq}
 use Rattle.area.specs.Places.{index_fits}
 use Rattle.confidences.specs.Confidences.{joint, project_values}
@@ -23,7 +23,8 @@ use Rattle.projections.proofs.FourTurns.{FourTurn, block_room}
 use Rattle.value_steps.specs.Pairs.{ValuePair, ValueBlocks, pair_joint}
 use Rattle.value_steps.proofs.Joints.{joint_small}
 use Rattle.value_steps.proofs.ValueReads.{value_small, joint_kept}
-use Rattle.value_steps.proofs.FourTurns.{digits_ask, value_blocks, four_joint}
+use Rattle.direction.specs.Direction.{highest, insert_zero}
+use Rattle.value_steps.proofs.FourTurns.{digits_ask, four_turn, value_blocks, four_joint}
 
 -- ---- one pair
 
@@ -134,6 +135,11 @@ pub record FourJoin (m k : ℕ) (xs : List ℤ) (n h q p : ℕ) : Type 0 where
   pub asks : ProjectsFour m k xs
   pub size : n ≡ 2 ^ m
   pub turn : (l : ℕ) → l < 4 → FourTurn m h (4 * k) l q p
+
+-- from what the code knows there
+pub four_join : {m k n h q p : ℕ} {xs : List ℤ} → ProjectsFour m k xs → n ≡ 2 ^ m → h ≡ highest (4 * k) → q < 2 ^ m → q % 4 ≡ 0 → p ≡ insert_zero h q
+    → FourJoin m k xs n h q p
+four_join asks size top below whole inserted = record { asks = asks; size = size; turn = λ l hl. four_turn asks l hl top below whole inserted }
 
 module _ {m k n h q p : ℕ} {xs : List ℤ} (t : FourJoin m k xs n h q p) where
   pub number : q + 4 ≤ 2 ^ m

@@ -45,6 +45,12 @@ pub record FourShare (m k : ℕ) (w : ℕ → Bool) (xs : List ℤ) (n h q p : �
   pub inserted : p ≡ insert_zero h q
   pub before : Sharing m k w xs q ys
 
+-- from what the code knows there
+pub four_share : {m k n h q p : ℕ} {w : ℕ → Bool} {xs ys : List ℤ} → ProjectsFour m k xs → Sums (2 ^ suc m) xs → n ≡ 2 ^ m → h ≡ highest (4 * k) → q < 2 ^ m
+    → p ≡ insert_zero h q → Sharing m k w xs q ys → FourShare m k w xs n h q p ys
+four_share asks sums size top below inserted before =
+    record { asks = asks; sums = sums; size = size; top = top; below = below; inserted = inserted; before = before }
+
 -- the numbers that the code makes of a turn's places
 pub record Rooms (n q p z : ℕ) : Type 0 where
   pub four : Fits w64 (4 * n)

@@ -14,13 +14,12 @@ use Rattle.words.specs.Sum.{total, sum_below_ℤ}
 use Rattle.words.specs.SumLaws.{sum_ℤ_ext}
 use Rattle.words.specs.Written.{Written, written_as}
 use Rattle.area.specs.Area.{at, four_of}
-use Rattle.area.specs.AreaLaws.{by_four, four_as}
+use Rattle.area.proofs.AreaLaws.{by_four, four_as}
 use Rattle.area.specs.Numbers.{nat_abs-add, Half, stored, stored-eq, sum_fits, sum_stored}
 use Rattle.area.specs.Places.{Places, places, index_fits}
 use Rattle.hadamard.specs.Correlation.{constant_of}
 use Rattle.hadamard.specs.CorrelationLaws.{nat_abs-signed}
 use Rattle.projections.specs.FourLaws.{four_lt}
-use Rattle.confidences.specs.Confidences.{greatest}
 use Rattle.value_steps.specs.Shares.{voiced, Says, FourSays, FourHears, voices_of, four_said, four_places, Addends}
 use Rattle.value_steps.specs.declared.quads.Voices.{Voices}
 

@@ -8,8 +8,9 @@ use lib.ListN.{length}
 use lib.IntN.{ℤ, nat_abs}
 use Rattle.area.specs.Area.{at}
 use Rattle.direction.specs.Direction.{highest, insert_zero}
-use Rattle.direction.specs.Insert.{Top, top_le}
-use Rattle.direction.specs.Members.{IsDirection, direction_top}
+use Rattle.direction.proofs.Insert.{Top, top_le}
+use Rattle.direction.specs.IsDirection.{IsDirection}
+use Rattle.direction.proofs.Members.{direction_top}
 use Rattle.projections.specs.Fours.{InFours}
 use Rattle.projections.specs.FourLaws.{pow_whole, high_top}
 use Rattle.projections.proofs.FourTurns.{FourTurn, four_members, four_partner, partner_place}

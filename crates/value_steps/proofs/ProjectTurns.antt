@@ -6,9 +6,9 @@ use lib.Bits.{bit_xor}
 use lib.IntN.{ℤ, nat_abs}
 use Rattle.area.specs.Area.{at}
 use Rattle.area.specs.Numbers.{stored}
-use Rattle.direction.specs.Members.{Members}
+use Rattle.direction.proofs.Members.{Members}
 use Rattle.confidences.specs.Confidences.{greatest, joint, project_values}
-use Rattle.confidences.specs.Rounds.{at_project}
+use Rattle.confidences.proofs.Rounds.{at_project}
 use Rattle.confidences.specs.Values.{Projects, front_of}
 use Rattle.value_steps.proofs.ValueReads.{at_front, value_small, joint_kept}
 

@@ -13,8 +13,8 @@ use Rattle.words.specs.Written.{Written}
 use Rattle.words.specs.Xor.{xor_twice}
 use Rattle.area.specs.Area.{at}
 use Rattle.area.specs.Places.{index_fits}
-use Rattle.direction.specs.Direction.{coset_of}
-use Rattle.direction.specs.Members.{Members, number_one, number_two}
+use Rattle.direction.specs.Direction.{coset_of, highest, insert_zero}
+use Rattle.direction.proofs.Members.{Members, members, number_one, number_two}
 use Rattle.cosets.specs.SetBelow.{Blocks, SetBelow, apart_after, still, two_runs, pair_blocks, set_more}
 use Rattle.confidences.specs.Confidences.{greatest}
 use Rattle.confidences.specs.Values.{Projects, Sums, heard_at}
@@ -27,6 +27,11 @@ pub record Turn (m b c : ℕ) (xs : List ℤ) (n q p : ℕ) (ys : List ℤ) : Ty
   pub size : n ≡ 2 ^ m
   pub coset : Members m b q p
   pub so_far : SetBelow m b (λ p. at xs (2 ^ suc m + p) +ℤ heard_at b c xs p) xs q ys
+
+-- from what the code knows there
+pub turn_of : {m b c n h q p : ℕ} {xs ys : List ℤ} → Projects m b c xs → Sums (2 ^ suc m) xs → n ≡ 2 ^ m → q < 2 ^ m → h ≡ highest b → p ≡ insert_zero h q
+    → SetBelow m b (λ p. at xs (2 ^ suc m + p) +ℤ heard_at b c xs p) xs q ys → Turn m b c xs n q p ys
+turn_of asks sums size l top inserted so_far = record { asks = asks; sums = sums; size = size; coset = members asks.direction l top inserted; so_far = so_far }
 
 -- the numbers that the code makes of a turn's places, o being p XOR b
 pub record Rooms (n c q p o : ℕ) : Type 0 where

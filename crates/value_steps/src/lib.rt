@@ -1,5 +1,6 @@
 // The steps of a round of confidences: projections and shares of the sums, a direction at a time or four.
 #![tactic(auto)]
+
 ghost use Rattle.std.specs.Prelude.{◌≡◌, suc, ◌+◌, ◌*◌, ◌^◌, pos, ◌+ℤ◌};
 ghost use Rattle.words.specs.Written.{Written};
 ghost use Rattle.area.specs.Area.{at};

@@ -10,7 +10,7 @@ use Rattle.words.specs.Word.{bit}
 use Rattle.area.specs.Area.{at, word_of}
 use Rattle.area.specs.Numbers.{Half}
 use Rattle.direction.specs.Direction.{coset_of, project}
-use Rattle.direction.specs.Members.{direction_lt}
+use Rattle.direction.proofs.Members.{direction_lt}
 use Rattle.cosets.specs.SetBelow.{Blocks, set_more}
 use Rattle.cosets.specs.Votes.{Projects, Tally, InProjection, cast_vote}
 use Rattle.four_votes.specs.FourVotes.{FourVotes, four_vote, FourVoted}

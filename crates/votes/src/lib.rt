@@ -1,5 +1,6 @@
 // The votes of a direction, in the area.
 #![tactic(auto)]
+
 ghost use Rattle.std.specs.Prelude.{suc, ◌+◌, ◌^◌, pos, ◌+ℤ◌};
 ghost use Rattle.words.specs.Written.{Written};
 ghost use Rattle.area.specs.Area.{at};

@@ -4,3 +4,4 @@ pub mod WalkLaws
 pub mod PlaceLaws
 pub mod EveryMeter
 pub mod SummaryLaws
+pub mod LineLaws

@@ -7,7 +7,7 @@ use Rattle.streets.specs.Street.{Step, steps_after}
 use Rattle.streets.specs.State.{Showing, shows_none, refused, setting_checks, shows, step, street_by}
 use Rattle.streets.specs.declared.Plan.{Plan}
 use Rattle.street_settings.specs.declared.Settings.{Settings}
-use Rattle.street_report.specs.Report.{counts_of, plus_step}
+use Rattle.street_report.specs.Report.{counts_of, plus_step, step_line}
 use Rattle.street_report.specs.declared.Counts.{Counts}
 use Rattle.walks.specs.declared.Next.{Next}
 use Rattle.walks.specs.declared.Next.TheVariants as next
@@ -49,6 +49,12 @@ pub record Onward (slot : Slot) (plan : Plan) (x : Showing) (w w' : Walk) : Type
   pub street : w'.street ≡ street_by slot plan w.street x
   pub counts : w'.counts ≡ counts_after plan.retries w.counts x
   pub going : going_by w'.next ≡ going_after x
+
+-- the line of what a step shows, where lines are asked for
+abbrev pub line_of : Bool → Showing → List ℕ
+line_of summary (step x) = cond summary [] (step_line x)
+line_of summary shows_none = []
+line_of summary (refused number) = []
 
 -- ---- all of them
 

@@ -5,7 +5,7 @@ use Rattle.std.proofs.Math.Path.{refl}
 use Rattle.std.proofs.lemmas.Bool.{false≢true, eqb-false}
 use Rattle.refusals.specs.Refusals.{first_refusal, number_of}
 use Rattle.refusals.specs.declared.Refusal.{Refusal}
-use Rattle.refusals.specs.CheckLaws.{passed, passes, no_more}
+use Rattle.refusals.proofs.CheckLaws.{passed, passes, no_more}
 use Rattle.tables.specs.declared.Slot.{Slot}
 use Rattle.load.specs.LoadLaws.{before_live}
 use Rattle.streets.specs.Street.{Step, answer_to, load_at, sender_after, steps_after, with_step}

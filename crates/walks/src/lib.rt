@@ -1,15 +1,19 @@
 // A walk along a street: its steps, each shown as it is made, until no meter is left to send.
 #![tactic(auto)]
-ghost use Rattle.std.specs.Prelude.{◌≡◌, ◌^◌, ◌≤◌, length};
+
+ghost use Rattle.std.specs.Prelude.{◌≡◌, false, ◌^◌, ◌≤◌, length};
+ghost use Rattle.std.specs.Io.KnownBytes.{Appends};
 ghost use Rattle.tables.specs.Tables.{ours, slot_of};
 ghost use Rattle.streets.specs.State.{shows};
-ghost use Rattle.walks.specs.Walk.{Lent, Onward, Walked, going_by, is_on, plan_of};
+ghost use Rattle.street_report.specs.Report.{step_line, step_of};
+ghost use Rattle.walks.specs.Walk.{Lent, Onward, Walked, going_by, is_on, line_of, plan_of};
 
-use libc::STDOUT_FILENO;
 use refusals::Refusal;
+use std::io::Write;
 use street_report::Counts;
 use street_settings::Settings;
 use streets::{Fate, Plan, Shown, Street};
+use turns::{Stream, sent};
 
 // What comes after a step: another, or the walk is at its end, with no meter left, or the settings are refused.
 #[derive(Clone, Copy)]
@@ -28,15 +32,26 @@ pub struct Walk {
 }
 
 // Prints the line of a step.
-fn show(meter: usize, attempt: usize, fate: Fate) {
+fn show<W: Write>(to: &mut Stream<W>, meter: usize, attempt: usize, fate: Fate)
+    ensures shown { to.new.failed ≡ false → Appends (W.contents to.old.inner) (W.contents to.new.inner) (step_line (step_of meter attempt fate)) }
+    ensures failing { to.new.failed ≡ false → to.old.failed ≡ false }
+{
     let mut out = [0u8; 54];
     let n = street_report::step_line(meter, attempt, fate, &mut out);
-    io::write_all(STDOUT_FILENO, &out[..n]);
+    sent(to, &out[..n]);
 }
 
 // One step, its line where lines are asked for, and its counts.
-fn step(s: Settings, w: Walk, block: &mut [u8], area: &mut [i32]) -> Walk
-    ensures { Onward (slot_of ours s.profile) (plan_of s) (shows (slot_of ours s.profile) (plan_of s) w.street (length block.old) (length area.old)) w result }
+fn step<W: Write>(
+    s: Settings,
+    w: Walk,
+    to: &mut Stream<W>,
+    block: &mut [u8],
+    area: &mut [i32],
+) -> Walk
+    ensures onward { Onward (slot_of ours s.profile) (plan_of s) (shows (slot_of ours s.profile) (plan_of s) w.street (length block.old) (length area.old)) w result }
+    ensures shown { to.new.failed ≡ false → Appends (W.contents to.old.inner) (W.contents to.new.inner) (line_of s.summary (shows (slot_of ours s.profile) (plan_of s) w.street (length block.old) (length area.old))) }
+    ensures failing { to.new.failed ≡ false → to.old.failed ≡ false }
 {
     let plan = Plan {
         wrong: s.wrong,
@@ -50,7 +65,7 @@ fn step(s: Settings, w: Walk, block: &mut [u8], area: &mut [i32]) -> Walk
     match shown {
         Shown::Sent(meter, attempt, fate) => {
             if !s.summary {
-                show(meter, attempt, fate);
+                show(to, meter, attempt, fate);
             }
             Walk {
                 street,
@@ -72,11 +87,10 @@ fn step(s: Settings, w: Walk, block: &mut [u8], area: &mut [i32]) -> Walk
 }
 
 // Whether another step comes.
-fn goes_on(w: Walk) -> bool
-    ensures { result ≡ is_on (going_by w.next) }
+fn goes_on(w: &Walk) -> bool
+    ensures { result ≡ is_on (going_by w.now.next) }
 {
-    let next = w.next;
-    match next {
+    match w.next {
         Next::Step => true,
         Next::End => false,
         Next::Refused(_) => false,
@@ -84,7 +98,7 @@ fn goes_on(w: Walk) -> bool
 }
 
 // From the start until no meter is left to send: 256 meters send at most 16 times, and one step more says that none is left.
-fn walk_in(s: Settings, block: &mut [u8], area: &mut [i32]) -> Walk
+fn walk_in<W: Write>(s: Settings, to: &mut Stream<W>, block: &mut [u8], area: &mut [i32]) -> Walk
     requires { Lent (slot_of ours s.profile) (length block.old) (length area.old) }
     ensures { Walked (slot_of ours s.profile) (plan_of s) s.start result }
 {
@@ -94,9 +108,9 @@ fn walk_in(s: Settings, block: &mut [u8], area: &mut [i32]) -> Walk
         next: Next::Step,
     };
     let mut left = 4097usize;
-    while left > 0 && goes_on(w) {
+    while left > 0 && goes_on(&w) {
         left -= 1;
-        w = step(s, w, block, area);
+        w = step(s, w, to, block, area);
     }
     w
 }
@@ -110,11 +124,11 @@ fn places(profile: usize) -> usize
 }
 
 // A walk with buffers of its own.
-pub fn walk_street(s: Settings) -> Walk
+pub fn walk_street<W: Write>(s: Settings, to: &mut Stream<W>) -> Walk
     ensures { Walked (slot_of ours s.profile) (plan_of s) s.start result }
 {
     let n = places(s.profile);
     let mut block = [0u8; 1024];
     let mut area = [0i32; 8192];
-    walk_in(s, &mut block[0..n], &mut area)
+    walk_in(s, to, &mut block[..n], &mut area)
 }

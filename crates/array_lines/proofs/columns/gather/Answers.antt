@@ -1,0 +1,51 @@
+-- `array_lines::columns::gather` meets its contract. Assumes nothing.
+use Prim.Native.Nat.{◌+◌, ◌-◌, ◌*◌, ◌≤◌}
+use mathlib.Core.Path.{◌≡◌, refl}
+use native.Mathlib.Omega.{arith}
+use lib.ListN.{length}
+use Rattle.words.specs.Word.{bit}
+use Rattle.words.specs.Written.{Written, written_all, written_more, written_none, written_to}
+use Rattle.array_lines.specs.Asked.{Inside}
+use Rattle.array_lines.proofs.columns.gather.Goals as goal
+
+pub loop-i-init : goal.loop-i-init
+loop-i-init c =
+    (refl, omega arith, refl, c.requires, written_none 0 0 _ _)
+
+pub overflow_mul-line : goal.overflow_mul-line
+overflow_mul-line c =
+    omega (arith, c.loop-i.invariant.3.each c.loop-i.i (omega arith))
+
+pub overflow_add-line : goal.overflow_add-line
+overflow_add-line c =
+    omega (arith, c.loop-i.invariant.3.each c.loop-i.i (omega arith))
+
+pub bounds-grid-i : goal.bounds-grid-i
+bounds-grid-i c =
+    c.loop-i.invariant.3.each c.loop-i.i (omega arith)
+
+pub bounds-line-i : goal.bounds-line-i
+bounds-line-i c =
+    omega arith
+
+pub overflow_step-i : goal.overflow_step-i
+overflow_step-i c =
+    omega arith
+
+pub loop-i-smaller : goal.loop-i-smaller
+loop-i-smaller c =
+    omega arith
+
+pub loop-i-preserved : goal.loop-i-preserved
+loop-i-preserved c =
+    let l = c.loop-i in
+    let w = written_more l.invariant.4 l.i _ (omega arith) (omega arith) refl in
+    (refl, omega arith, w.long, l.invariant.3, w)
+
+pub shape_of-line : goal.shape_of-line
+shape_of-line c =
+    omega arith
+
+pub returns : goal.returns
+returns c =
+    written_all (written_to c.loop-i.invariant.4 _ (omega arith)) refl

@@ -1,0 +1,4 @@
+pub mod Lines
+pub mod ArrayCalls
+pub mod ArrayLaws
+pub mod WorkedArrays

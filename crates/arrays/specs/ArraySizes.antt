@@ -1,0 +1,25 @@
+-- Calls on arrays: what is accepted, clean arrays, the leaf sum, and two calls on arrays that differ by an array of codewords. Assumes nothing.
+-- ---- the limits
+use Prim.Native.Nat.{ℕ, ◌+◌, ◌*◌, ◌^◌, ◌≤◌, max}
+use Rattle.std.specs.Prelude.{◌≡◌}
+use mathlib.Core.List.{List}
+use Rattle.words.specs.Word.{IsWord}
+use Rattle.arrays.specs.IsSide.{IsSide}
+
+pub record IsLimits (rounds leaves : ℕ) : Type 0 where
+  pub rounds_least : 1 ≤ rounds
+  pub rounds_most : rounds ≤ 16
+  pub leaves_least : 1 ≤ leaves
+  pub leaves_most : leaves ≤ 1000000
+
+-- both codes and the limits passed their checks
+pub record Passed (mr rr mc rc rounds leaves : ℕ) : Type 0 where
+  pub across : IsSide mr rr
+  pub down : IsSide mc rc
+  pub limits : IsLimits rounds leaves
+
+-- "called as in demand 3": the input is a word, and the buffers have the right sizes
+pub record RightArray (mr mc : ℕ) (word : List ℕ) (room area : ℕ) : Type 0 where
+  pub input : IsWord (mc + mr) word
+  pub output : room ≡ 2 ^ (mc + mr)
+  pub lent : 8 * 2 ^ max mr mc ≤ area

@@ -1,0 +1,18 @@
+-- `confidence_decoder::runs::load` meets its contract. Assumes nothing.
+use Prim.Native.Nat.{◌-◌, ◌≤◌}
+use native.Mathlib.Omega.{arith}
+use lib.ListN.{length}
+use lib.IntN.{pos}
+use borrow.Author.Rules.{rules}
+use Rattle.words.specs.Written.{Written, written_none, written_more, written_to}
+use Rattle.area.specs.Area.{at}
+use Rattle.confidence_decoder.specs.Numbers.{sixteen_fits, sixteen-stored}
+use Rattle.confidence_decoder.proofs.runs.load.Given as goal
+
+abbrev pub invariant-loop-i : goal.invariant-loop-i
+invariant-loop-i l =
+    (l.i ≤ length l.values) × Written (pos 0) 0 l.i (at l.values) l.initial.area l.area
+
+abbrev pub decreases-loop-i : goal.decreases-loop-i
+decreases-loop-i l =
+    length l.values - l.i

@@ -1,0 +1,31 @@
+-- `confidence_decoder::value_checks::buffers` meets its contract. Assumes nothing.
+use Prim.Native.Nat.{◌*◌, ◌^◌, ◌≤◌}
+use mathlib.Core.Path.{refl}
+use mathlib.Core.List.{[]}
+use native.Mathlib.Omega.{arith}
+use lib.ListN.{length}
+use lib.Pow.{pow_mono}
+use borrow.Author.Rules.{rules}
+use Rattle.refusals.specs.Refusals.{Checked}
+use Rattle.rule.specs.Decoding.{size_checks}
+use Rattle.confidence_decoder.specs.Checked.{range_checks}
+use Rattle.confidence_decoder.specs.CheckedLaws.{goes_on_values, stops_values}
+use Rattle.confidence_decoder.proofs.value_checks.buffers.Goals as goal
+
+pub overflow_mul-n : goal.overflow_mul-n
+overflow_mul-n c =
+    let small : 2 ^ c.args.m ≤ 1024 = pow_mono {j = 10} c.requires in
+    record { fits = omega (arith, c.size-n.ensures) }
+
+pub returns-in-Refused : goal.returns-in-Refused
+returns-in-Refused c =
+    let sized : let a = c.args in
+    Checked (size_checks (2 ^ a.m) (8 * 2 ^ a.m) (length a.values.now) a.room a.area) [] c.sizes-sizes.result = rw c.size-n.ensures at c.sizes-sizes.ensures in
+    let x = c.args.values.now in
+    stops_values (range_checks x) x refl (sized) c.in-Refused.is
+
+pub returns : goal.returns
+returns c =
+    let sized : let a = c.args in
+    Checked (size_checks (2 ^ a.m) (8 * 2 ^ a.m) (length a.values.now) a.room a.area) [] c.sizes-sizes.result = rw c.size-n.ensures at c.sizes-sizes.ensures in
+    goes_on_values _ tt (sized) c.in_default.is c.range.ensures

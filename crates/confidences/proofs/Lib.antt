@@ -1,0 +1,11 @@
+pub mod Rounds
+pub mod Range
+pub mod AlikeLaws
+pub mod CallLaws
+pub mod Clean
+pub mod Counts
+pub mod Likeness
+pub mod OneMagnitude
+pub mod Signs
+pub mod ValueLaws
+pub mod WorkedValues

@@ -1,0 +1,14 @@
+-- `gateway::decode` meets its contract. Assumes nothing.
+use mathlib.Core.Path.{◌≡◌}
+use native.Mathlib.Omega.{arith}
+use Rattle.gateway.proofs.decode.Goals as goal
+
+pub returns-in-0 : goal.returns-in-0
+returns-in-0 c =
+    let e : c.args.profile ≡ 0 = omega arith in
+    rw e c.decode_32.ensures
+
+pub returns-in-1 : goal.returns-in-1
+returns-in-1 c =
+    let e : c.args.profile ≡ 1 = omega arith in
+    rw e c.decode_64.ensures

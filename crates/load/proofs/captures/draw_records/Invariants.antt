@@ -1,0 +1,17 @@
+-- `load::captures::draw_records` meets its contract: the loop writes a record a turn. Assumes nothing.
+use Prim.Native.Nat.{◌+◌, ◌-◌, ◌*◌, ◌≤◌}
+use mathlib.Core.Path.{refl}
+use native.Mathlib.Omega.{arith}
+use lib.Dec.{ltb}
+use lib.ListN.{length}
+use borrow.Author.Rules.{rules}
+use Rattle.load.specs.CaptureLaws.{Recorded, record_part, record_room, recorded_all, recorded_more, recorded_none, short_fits}
+use Rattle.load.proofs.captures.draw_records.Given as goal
+
+abbrev pub invariant-loop-i : goal.invariant-loop-i
+invariant-loop-i l =
+    Recorded l.slot l.number l.asked l.start l.blocks l.initial.out l.out l.state l.short l.i
+
+abbrev pub decreases-loop-i : goal.decreases-loop-i
+decreases-loop-i l =
+    l.blocks - l.i

@@ -1,0 +1,8 @@
+-- `packing::by_table::pack_number` meets its contract. Assumes nothing.
+use mathlib.Core.Path.{sym, ap, ◌∙◌}
+use Rattle.refusals.specs.Refusals.{answer_number}
+use Rattle.packing.proofs.by_table.pack_number.Goals as goal
+
+pub returns-in-Refused : goal.returns-in-Refused
+returns-in-Refused c =
+    c.number.ensures ∙ ap answer_number (sym c.in-Refused.is)

@@ -1,0 +1,19 @@
+-- `parities::butterfly` meets its contract: a turn does one pair. Assumes nothing.
+use Prim.Native.Nat.{◌-◌, ◌≤◌}
+use native.Mathlib.Omega.{arith}
+use borrow.Author.Rules.{rules}
+use Rattle.words.specs.ButterflyLaws.{PairsDone, pairs_none, pairs_all}
+use Rattle.parities.specs.Parities.{number_parities, numbers_added}
+use Rattle.parities.proofs.butterfly.Goals as goal
+
+pub loop-i-init : goal.loop-i-init
+loop-i-init c =
+    (omega arith, pairs_none _ _ _)
+
+pub loop-i-preserved : goal.loop-i-preserved
+loop-i-preserved c =
+    (omega arith, numbers_added c.loop-i.invariant.1 (omega arith) c.requires)
+
+pub returns : goal.returns
+returns c =
+    pairs_all number_parities c.loop-i.invariant.1 (omega arith) c.requires.size

@@ -1,0 +1,2 @@
+-- Whole: what a run comes to.
+pub mod Whole

@@ -1,0 +1,15 @@
+pub mod DecodingLaws
+pub mod Outcomes
+pub mod Clean
+pub mod Counts
+pub mod Covariance
+pub mod Demand3
+pub mod MendedLeast
+pub mod Nearest
+pub mod Order0
+pub mod Order1
+pub mod ProfileLaws
+pub mod Rounds
+pub mod WorkedRounds
+pub mod WorkedValues
+pub mod WorkedVotes

@@ -1,0 +1,18 @@
+-- `street_settings::value` meets its contract: v is the number of the digits passed. Assumes nothing.
+use Prim.Native.Nat.{ℕ, ◌+◌, ◌-◌, ◌*◌, ◌^◌, ◌≤◌, ◌<◌}
+use mathlib.Core.Path.{◌≡◌, refl, sym, ap, ◌∙◌}
+use lib.ListN.{length}
+use Rattle.words.specs.Word.{bit}
+use borrow.Author.Rules.{rules}
+use native.Mathlib.Omega.{arith}
+use Rattle.street_settings.specs.Settings.{value_of}
+use Rattle.street_settings.specs.SettingLaws.{kept_great, kept_small, digit, value_grows, value_more, value_none}
+use Rattle.street_settings.proofs.value.Given as goal
+
+abbrev pub invariant-loop-p : goal.invariant-loop-p
+invariant-loop-p l =
+    (l.p-end ≡ length l.s) × (l.p ≤ length l.s) × (l.v ≡ value_of l.s l.p) × (l.v < 2 ^ 32)
+
+abbrev pub decreases-loop-p : goal.decreases-loop-p
+decreases-loop-p l =
+    length l.s - l.p

@@ -1,0 +1,29 @@
+-- `streets::meters::next_due` meets its contract. Assumes nothing.
+use Prim.Native.Nat.{ℕ, ◌-◌, ◌≤◌, ◌<◌}
+use native.Mathlib.Nat.{le_refl}
+use native.Mathlib.Omega.{arith}
+use mathlib.Core.Path.{◌≡◌, sym, ◌∙◌}
+use mathlib.Core.Bool.{false}
+use borrow.Author.Count.{below_more}
+use borrow.Author.Rules.{rules}
+use Rattle.words.specs.Word.{bit}
+use Rattle.streets.specs.State.{waits_from}
+use Rattle.streets.specs.MeterLaws.{due_is}
+use Rattle.streets.proofs.meters.next_due.Goals as goal
+
+pub loop-i-init : goal.loop-i-init
+loop-i-init c =
+    (omega arith, λ q l. absurd (omega arith))
+
+pub returns-then-waits : goal.returns-then-waits
+returns-then-waits c =
+    let l = c.loop-i in
+    due_is _ _ _ (record { within = omega arith; before = l.invariant.1; found = λ z. sym c.waits.ensures ∙ c.if-waits.true })
+
+pub loop-i-preserved : goal.loop-i-preserved
+loop-i-preserved c =
+    (omega arith, below_more _ _ c.loop-i.invariant.1 (sym c.waits.ensures ∙ c.if-waits.false))
+
+pub returns : goal.returns
+returns c =
+    due_is _ _ _ (record { within = le_refl _; before = λ q l. c.loop-i.invariant.1 q (omega arith); found = λ z. absurd (omega arith) })

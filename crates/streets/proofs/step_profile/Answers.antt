@@ -1,0 +1,13 @@
+-- `streets::step_profile` meets its contract. Assumes nothing.
+use mathlib.Core.Path.{sym, subst}
+use Rattle.tables.specs.Slots.{Proper, slot_proper}
+use borrow.Author.Rules.{rules}
+use Rattle.streets.proofs.step_profile.Goals as goal
+
+pub step_in-requires : goal.step_in-requires
+step_in-requires c =
+    subst Proper (sym c.look_ours.ensures) (slot_proper _ _)
+
+pub returns : goal.returns
+returns c =
+    rw c.look_ours.ensures at c.step_in.ensures

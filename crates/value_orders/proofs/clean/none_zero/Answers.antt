@@ -1,0 +1,36 @@
+-- `value_orders::clean::none_zero` meets its contract. Assumes nothing.
+use Prim.Native.Nat.{ℕ, ◌-◌, ◌≤◌}
+use mathlib.Core.Path.{◌≡◌, ap, ◌∙◌}
+use mathlib.Core.Bool.{Bool, not, ◌&&◌}
+use native.Mathlib.Omega.{arith}
+use borrow.Author.Rules.{rules}
+use Rattle.words.specs.Sum.{all_below}
+use Rattle.words.specs.SumLaws.{all_none, all_more}
+use Rattle.area.specs.Area.{at}
+use Rattle.area.specs.Numbers.{fits_32}
+use Rattle.value_orders.specs.Leaves.{is_some}
+use Rattle.value_orders.specs.SignLaws.{zero_test}
+use Rattle.value_orders.proofs.clean.none_zero.Goals as goal
+
+pub loop-i-init : goal.loop-i-init
+loop-i-init c =
+    (omega arith, all_none _)
+
+pub bounds-part-i : goal.bounds-part-i
+bounds-part-i c =
+    omega (arith, c.requires.room)
+
+pub loop-i-smaller : goal.loop-i-smaller
+loop-i-smaller c =
+    omega arith
+
+pub loop-i-preserved : goal.loop-i-preserved
+loop-i-preserved c =
+    let l = c.loop-i in
+    let z = at c.args.part.now l.i in
+    let fits = fits_32 z (omega (arith, c.requires.small l.i c.loop-i-test.true)) in
+    (omega arith, ap (λ (y : Bool). l.some && not y) (zero_test z fits.sfits) ∙ all_more l.i _ l.some l.invariant.1)
+
+pub returns : goal.returns
+returns c =
+    c.loop-i.invariant.1 ∙ ap (λ (n : ℕ). all_below n (is_some c.args.part.now)) (omega arith)
