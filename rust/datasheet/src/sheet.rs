@@ -21,7 +21,7 @@ A block has n = 2^m bits. If at most so many of them arrive wrong as the column 
 codeword that was sent, in at most 2 rounds, and says how many bits it mended. It does so for every message and wherever the wrong bits are: \
 this is proved, not sampled. The round limit must be 2 to 16, and the leaf limit at least the column \"leaf limit\" and at most 1,000,000.
 
-This page is made from the proved table (crates/guarantee/specs/DataSheet.antt) by the program rust/datasheet, and the gate checks that it \
+This page is made from the proved table (crates/guarantee/proofs/DataSheet.antt) by the program rust/datasheet, and the gate checks that it \
 is what the program writes.
 ";
 

@@ -1,6 +1,6 @@
 //! The rows of the proved tables, read from the files that the checker proves.
 
-pub const CODES: &str = "crates/guarantee/specs/DataSheet.antt";
+pub const CODES: &str = "crates/guarantee/proofs/DataSheet.antt";
 pub const PROFILES: &str = "crates/profiles/specs/Profiles.antt";
 
 /// A row of the data sheet: a code, its distance, the places surely mended, the leaf limit that is enough, and whether a leaf limit may be
