@@ -1,5 +1,4 @@
--- Calls on arrays: what is accepted, clean arrays, the leaf sum, and two calls on arrays that differ by an array of codewords. Assumes nothing.
--- ---- the limits
+-- Calls on arrays: the limits, both codes that passed their checks, and buffers of the right sizes. Assumes nothing.
 use Prim.Native.Nat.{ℕ, ◌+◌, ◌*◌, ◌^◌, ◌≤◌, max}
 use Rattle.std.specs.Prelude.{◌≡◌}
 use mathlib.Core.List.{List}

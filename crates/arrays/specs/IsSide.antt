@@ -1,4 +1,4 @@
--- One row or column: what its reading leaves, counts, and does with a codeword added. Assumes nothing.
+-- m and r name a code of rows or columns: 1 ≤ m ≤ 6, r ≤ m. Assumes nothing.
 use Rattle.std.specs.Prelude.{ℕ, ◌≤◌}
 
 -- the code of one side passed its checks

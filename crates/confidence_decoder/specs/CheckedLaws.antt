@@ -2,7 +2,7 @@
 use Rattle.std.specs.Prelude.{ℕ, ◌≤◌, ◌<◌, ◌≡◌, refl, Bool, true, false, not, cond, List, [], ◌∷◌, ◌++◌, eqb, ℤ, nat_abs, length}
 use Rattle.std.proofs.Common.{sym, ap, ◌∙◌, arith, le-leb, le-ltb, lt-ltb, ne_eqb}
 use Rattle.std.proofs.lemmas.Bool.{false≢true, lt-leb}
-use Rattle.words.proofs.Search.{first_where_lem}
+use Rattle.words.specs.Search.{first_where_lem}
 use Rattle.words.specs.Sum.{first_where}
 use Rattle.words.specs.SumLaws.{both_true}
 use Rattle.words.specs.Word.{lowest_bad}

@@ -22,7 +22,7 @@ use Rattle.rule.specs.Shift.{shift}
 use Rattle.rule.proofs.Outcomes.{CodewordIn, leaves_shift}
 use Rattle.rule.specs.Reading.{Outcome, abstains, accepted, leaves_of, refused}
 use Rattle.rule.proofs.Rounds.{settled}
-use Rattle.words.proofs.Search.{where_ext}
+use Rattle.words.specs.Search.{where_ext}
 use Rattle.words.specs.Sum.{first_where}
 use Rattle.words.specs.SumLaws.{get_or-tabulate, length-tabulate, sum_ext, sum_ℤ_ext}
 use Rattle.words.specs.Word.{IsWord, add_words, bit}

@@ -14,7 +14,7 @@ use Rattle.direction.specs.Direction.{coset_of, highest, insert_zero}
 use Rattle.hadamard.specs.Correlation.{correlation, signed}
 use Rattle.hadamard.specs.CorrelationLaws.{nat_abs-signed}
 use Rattle.rule.specs.Reading.{Outcome, accepted, refused}
-use Rattle.words.proofs.Search.{First, where_first}
+use Rattle.words.specs.Search.{First, where_first}
 use Rattle.words.specs.Sum.{sum_below_ℤ, tabulate, total}
 use Rattle.words.specs.SumLaws.{get_or-tabulate, length-tabulate}
 use Rattle.words.specs.Word.{bit}

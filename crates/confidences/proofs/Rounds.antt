@@ -15,7 +15,7 @@ use Rattle.direction.specs.Direction.{highest, insert_zero}
 use Rattle.hadamard.specs.Correlation.{constant_of}
 use Rattle.hadamard.specs.CorrelationLaws.{constant_of-lt}
 use Rattle.rule.specs.Reading.{Outcome, abstains, accepted, leaves_of, order0, order1, refused}
-use Rattle.words.proofs.Search.{First, where_first}
+use Rattle.words.specs.Search.{First, where_first}
 use Rattle.words.specs.Sum.{sum_below, sum_below_ℤ, tabulate, total}
 use Rattle.words.specs.SumLaws.{bit_tabulate, get_or-tabulate, length-tabulate, sum_prefix}
 use Rattle.words.specs.Word.{IsWord, bit}

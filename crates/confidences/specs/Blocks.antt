@@ -1,6 +1,4 @@
--- Blocks of values, and the rounds of a reading step by step: projections, what directions add, new values, counts, and how a reading ends.
--- Assumes nothing.
--- ---- values of exponent m
+-- Blocks of values of exponent m. Assumes nothing.
 use Prim.Native.Nat.{ℕ, ◌^◌, ◌<◌}
 use Rattle.std.specs.Prelude.{◌≡◌, List, ℤ, nat_abs, length}
 use Rattle.area.specs.Area.{at}

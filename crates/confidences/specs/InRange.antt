@@ -1,4 +1,4 @@
--- The numbers of a reading of confidences stay small: 32 bits hold them. Assumes nothing.
+-- Blocks of values that a call accepts. Assumes nothing.
 use Prim.Native.Nat.{ℕ, ◌≤◌}
 use Rattle.std.specs.Prelude.{List, ℤ}
 use Rattle.std.proofs.Math.IntN.{nat_abs}

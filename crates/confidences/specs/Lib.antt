@@ -1,4 +1,4 @@
--- Definitions: Confidences, Answers, Alike; how they stand in the area: Values. The rest are laws.
+-- Definitions: Confidences, Answers, Alike; how they stand in the area: Values; what statements above speak of: Blocks, InRange. Laws: proofs/.
 pub mod Confidences
 pub mod Answers
 pub mod Values

@@ -1,2 +1,2 @@
--- Definitions: Crew. CrewLaws has the laws.
+-- Definitions: Crew. Their laws: proofs/CrewLaws.
 pub mod Crew

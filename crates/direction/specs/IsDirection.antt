@@ -1,4 +1,4 @@
--- A direction of words of exponent m + 1, and the two members of its coset q. Assumes nothing.
+-- A direction of words of exponent m + 1. Assumes nothing.
 use Rattle.std.specs.Prelude.{ℕ, suc, ◌^◌, ◌≤◌, ◌<◌}
 
 -- b is a direction of words of exponent m + 1, at most 10

@@ -1,3 +1,3 @@
--- Definitions: Direction. The rest are laws.
+-- Definitions: Direction; what statements above speak of: IsDirection. Laws: proofs/.
 pub mod Direction
 pub mod IsDirection

@@ -3,7 +3,7 @@ use Rattle.std.specs.Prelude.{ℕ, zero, suc, ◌+◌, ◌-◌, ◌≤◌, ◌<�
 use Rattle.std.proofs.Common.{sym, ap, ap₂, ◌∙◌, ⊎_elim, not-suc-le-zero, arith, eq-eqb, ne_eqb, eqb-true}
 use Rattle.std.proofs.Math.Decide.{ℕ_discrete}
 use Rattle.std.proofs.lemmas.Bool.{eqb-false}
-use Rattle.words.proofs.Search.{First, where_first}
+use Rattle.words.specs.Search.{First, where_first}
 use Rattle.words.specs.Sum.{greatest_below, total}
 use Rattle.words.specs.SumLaws.{le_or_lt, total_ext}
 use Rattle.hadamard.specs.Correlation.{first_below}

@@ -5,7 +5,7 @@ use Rattle.std.proofs.Common.{◌∙◌, ⊎_elim, pow_mono, eqb-true, ltb-true,
 use mathlib.Core.List.{List, [], ◌∷◌, ◌++◌}
 use native.Mathlib.Omega.{arith}
 use Rattle.std.proofs.lemmas.Bool.{eqb-false, not-true}
-use Rattle.words.proofs.Search.{lowest_within}
+use Rattle.words.specs.Search.{lowest_within}
 use Rattle.words.specs.SumLaws.{both_true, sum_most, le_or_lt}
 use Rattle.words.specs.Word.{differs, distance}
 use Rattle.refusals.proofs.CheckLaws.{bad_place, code_passed, other_place, passed, passes}

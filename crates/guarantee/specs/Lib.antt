@@ -1,3 +1,3 @@
--- Definitions: Guarantee. The rest are laws; DataSheet is the table of every code.
+-- Definitions: Guarantee. The rest are laws, in proofs/ too; DataSheet there is the table of every code.
 pub mod Guarantee
 pub mod PlaceSums

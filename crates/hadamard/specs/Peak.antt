@@ -9,7 +9,7 @@ use native.Mathlib.Omega.{arith}
 use Rattle.std.proofs.lemmas.Bool.{eqb-false}
 use Rattle.words.specs.Sum.{greatest_below, total}
 use Rattle.words.specs.SumLaws.{le_or_lt, split_last, sum_prefix, sum_zero}
-use Rattle.words.proofs.Search.{First, where_first}
+use Rattle.words.specs.Search.{First, where_first}
 use Rattle.words.specs.Word.{indicator}
 use Rattle.hadamard.specs.Correlation.{count_below, first_below}
 

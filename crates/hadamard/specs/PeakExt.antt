@@ -1,7 +1,7 @@
 -- Functions that agree below n have the same counts and the same first places there. Assumes nothing.
 use Rattle.std.specs.Prelude.{ℕ, ◌<◌, ◌≡◌, eqb}
 use Rattle.std.proofs.Common.{ap}
-use Rattle.words.proofs.Search.{where_ext}
+use Rattle.words.specs.Search.{where_ext}
 use Rattle.words.specs.SumLaws.{sum_ext}
 use Rattle.words.specs.Word.{indicator}
 use Rattle.hadamard.specs.Correlation.{count_below, first_below}

@@ -7,7 +7,7 @@ use Rattle.std.proofs.Math.ListN.{get_or-eq_default}
 use borrow.Author.Tests.{not-true, le-leb, lt-leb, leb-true, ne_eqb, ltb-true, lt-ltb, le-ltb}
 use Rattle.words.specs.SumLaws.{all_true, true_all, some_false, both_true}
 use Rattle.words.specs.Word.{bit, lowest_bad}
-use Rattle.words.proofs.Search.{lowest_above, lowest_before}
+use Rattle.words.specs.Search.{lowest_above, lowest_before}
 use Rattle.refusals.specs.Refusals.{Checked, number_of, place_of, answer_number, answer_place, place_named, Check, check, first_refusal, area_kept, code_checks, all_bits, byte_checks}
 use Rattle.refusals.specs.declared.Refusal.{Refusal}
 use Rattle.refusals.specs.declared.Refusal.TheVariants.{Exponent, Order, RoundLimit, LeafLimit, InputLength, OutputLength, AreaLength, BadByte, Tie, Flipping, Unsettled, TooManyLeaves, NotCodeword, Profile, Header, Truncated, Erased, OutOfRange, TableFile, TableEntry, LoadStart, WrongPlaces, Meters, Retries, UnknownName, NamesFull, ArrayExponent, NotArray}

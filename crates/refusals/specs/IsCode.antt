@@ -1,4 +1,4 @@
--- Laws of the checks of a call: what each test on the way says of the number of the first that fails. Assumes nothing.
+-- m and r name a code: 1 ≤ m ≤ 10, r ≤ m. Assumes nothing.
 use Rattle.std.specs.Prelude.{ℕ, ◌≤◌}
 
 pub record IsCode (m r : ℕ) : Type 0 where

@@ -1,4 +1,4 @@
--- Definitions: Reading, Decoding, Calls. The rest are laws; WorkedValues is document 01's table.
+-- Definitions: Reading, Decoding, Calls; what statements above speak of: RightSizes, Shift. Laws: proofs/; WorkedValues there is document 01's table.
 pub mod Reading
 pub mod Decoding
 pub mod Calls

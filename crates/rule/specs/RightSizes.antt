@@ -1,5 +1,4 @@
--- The decoder's answer under its limits: laws of the leaf limit and of the checks before a reading, and calls in buffers of the right sizes.
--- Assumes nothing.
+-- Calls of the decoder in buffers of the right sizes. Assumes nothing.
 use Rattle.std.specs.Prelude.{ℕ, ◌*◌, ◌^◌, ◌≤◌, ◌≡◌, List}
 use Rattle.words.specs.Word.{IsWord}
 

@@ -1,4 +1,4 @@
--- A reading's outcome: what is decoded in it, and what becomes of it when a codeword is added. Assumes nothing.
+-- A reading's outcome with a codeword added to what is decoded in it. Assumes nothing.
 use Rattle.std.specs.Prelude.{ℕ, List}
 use Rattle.words.specs.Word.{add_words}
 use Rattle.rule.specs.Reading.{Outcome, accepted, refused}

@@ -3,7 +3,7 @@ use Rattle.std.specs.Prelude.{ℕ, ◌+◌, ◌≤◌, ◌<◌, ◌≡◌, Bool,
 use Rattle.std.proofs.Math.Numerals.{add-one}
 use Rattle.std.proofs.Common.{arith, ◌∙◌}
 use borrow.Author.Tests.{le-leb, le-ltb, leb-true, lt-leb, lt-ltb}
-use Rattle.words.proofs.Search.{First, first_where_lem, where_first}
+use Rattle.words.specs.Search.{First, first_where_lem, where_first}
 use Rattle.words.specs.SumLaws.{both_true}
 use Rattle.words.specs.Word.{bit}
 use Rattle.streets.specs.State.{next_due, sender_of, waits_from}

@@ -6,7 +6,7 @@ use Rattle.std.proofs.Math.Logic.{⊎_elim}
 use Rattle.std.proofs.Math.Bool.{and-false}
 use Rattle.std.proofs.lemmas.List.{get_or-replicate}
 use borrow.Author.Tests.{le-leb, le-ltb, lt-leb, lt-ltb}
-use Rattle.words.proofs.Search.{first_where_lem}
+use Rattle.words.specs.Search.{first_where_lem}
 use Rattle.words.specs.Sum.{first_where}
 use Rattle.words.specs.SumLaws.{le_or_lt}
 use Rattle.words.specs.Word.{indicator}

@@ -9,7 +9,7 @@ use Rattle.std.proofs.Math.Seq.{ext_get_or}
 use borrow.Author.Tests.{le-leb, lt-leb, lt-ltb, le-ltb, leb-true, eq-eqb, ne_eqb, eqb-true, not-false}
 use Rattle.words.specs.SumLaws.{both_true, length-tabulate, get_or-tabulate}
 use Rattle.words.specs.Sum.{tabulate}
-use Rattle.words.proofs.Search.{first_where_lem, where_first}
+use Rattle.words.specs.Search.{first_where_lem, where_first}
 use Rattle.header.specs.Header.{agrees_from}
 use Rattle.words.specs.Written.{Written, written_none, written_more}
 use Rattle.profiles.specs.declared.Profile.{Profile}

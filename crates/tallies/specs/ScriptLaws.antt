@@ -8,7 +8,7 @@ use Rattle.std.proofs.Math.Dec.{leb}
 use Rattle.std.proofs.Math.ListN.{length, get_or-eq_default}
 use Rattle.std.proofs.Math.Seq.{ext_get_or}
 use borrow.Author.Tests.{eq-eqb, ne_eqb, le-leb, lt-leb, leb-true, lt-ltb, le-ltb}
-use Rattle.words.proofs.Search.{first_where_lem}
+use Rattle.words.specs.Search.{first_where_lem}
 use Rattle.words.specs.SumLaws.{le_or_lt, length-tabulate, get_or-tabulate}
 use Rattle.words.specs.Written.{Written, written_none, written_more}
 use Rattle.refusals.specs.Refusals.{answer_number}

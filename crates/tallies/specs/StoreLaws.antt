@@ -3,7 +3,7 @@ use Rattle.std.specs.Prelude.{ℕ, ◌≤◌, ◌<◌, ◌≡◌, refl, true}
 use Rattle.std.proofs.Math.Bool.{not}
 use Rattle.std.proofs.Common.{⊎_elim}
 use borrow.Author.Tests.{lt-ltb, le-ltb}
-use Rattle.words.proofs.Search.{First, where_first, first_where_lem}
+use Rattle.words.specs.Search.{First, where_first, first_where_lem}
 use Rattle.words.specs.SumLaws.{le_or_lt}
 use Rattle.refusals.specs.declared.Answer.TheVariants.{Done, Refused}
 use Rattle.refusals.specs.declared.Refusal.TheVariants.{UnknownName, NamesFull}

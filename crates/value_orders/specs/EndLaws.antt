@@ -4,7 +4,7 @@ use Rattle.std.proofs.Common.{sym, ◌∙◌, arith, get_or-take}
 use Rattle.std.proofs.Math.Path.{ap}
 use Rattle.std.proofs.Math.Dec.{eqb}
 use Rattle.words.specs.Sum.{first_where}
-use Rattle.words.proofs.Search.{first_where_lem, where_ext}
+use Rattle.words.specs.Search.{first_where_lem, where_ext}
 use Rattle.words.specs.SumLaws.{split_last}
 use Rattle.words.specs.Written.{Written}
 use Rattle.area.specs.Area.{at, Bits, Front, SameFront, word_of}

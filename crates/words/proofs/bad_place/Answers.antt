@@ -4,7 +4,7 @@ use native.Mathlib.Omega.{arith}
 use mathlib.Core.Path.{sym, ◌∙◌}
 use borrow.Author.Tests.{ltb-true}
 use Rattle.words.specs.SumLaws.{all_true}
-use Rattle.words.proofs.Search.{lowest_found}
+use Rattle.words.specs.Search.{lowest_found}
 use Rattle.words.proofs.bad_place.Goals as goal
 
 pub returns-then-all_bits : goal.returns-then-all_bits
