@@ -32,12 +32,12 @@ first_five h rest n short = elim (dec_lt (length h) 5) [
 
 module _ (table : Table) (reader : Lines) where
   -- what the writer got is the listing of what the reader had
-  abbrev pub Listed-whole : Option (List ℕ) → Option (List ℕ) → Option (List ℕ) → Type 0
-  Listed-whole had wrote wrote' = IfSome had (λ c. length c < 2 ^ 64 → Appends wrote wrote' (listing_of table reader c))
+  abbrev pub ListedWhole : Option (List ℕ) → Option (List ℕ) → Option (List ℕ) → Type 0
+  ListedWhole had wrote wrote' = IfSome had (λ c. length c < 2 ^ 64 → Appends wrote wrote' (listing_of table reader c))
 
   -- a wrong header, read where the input has no more or to its fifth byte
   pub whole_refused : (had left wrote wrote' : Option (List ℕ)) (h : List ℕ) → length h ≤ 5 → header_test h ≡ false → Consumes had left h
-      → (length h < 5 → IsAtEnd left) → Appends wrote wrote' header_line → Listed-whole had wrote wrote'
+      → (length h < 5 → IsAtEnd left) → Appends wrote wrote' header_line → ListedWhole had wrote wrote'
   whole_refused None left wrote wrote' h n wrong took short w = tt
   whole_refused (Some c) None wrote wrote' h n wrong took short w = absurd took
   whole_refused (Some c) (Some rest) wrote wrote' h n wrong took short w = λ _.
@@ -47,7 +47,7 @@ module _ (table : Table) (reader : Lines) where
   -- a right one, and all turns
   pub whole_listed : {s : State} {buffer : List ℕ} (had after left wrote wrote' wrote'' : Option (List ℕ)) (h : List ℕ) → length h ≤ 5 → header_test h ≡ true
       → Consumes had after h → (r : Ran table reader s buffer) → Consumes after left r.input → (s.last ≡ true → IsAtEnd left) → r.sent ≡ true → s.more ≡ false
-      → Appends wrote wrote' r.text → Appends wrote' wrote'' (last_line s.records s.accepted) → Listed-whole had wrote wrote''
+      → Appends wrote wrote' r.text → Appends wrote' wrote'' (last_line s.records s.accepted) → ListedWhole had wrote wrote''
   whole_listed None after left wrote wrote' wrote'' h n right took r came ends all over w l = tt
   whole_listed (Some c) None left wrote wrote' wrote'' h n right took r came ends all over w l = absurd took
   whole_listed (Some c) (Some rest) None wrote wrote' wrote'' h n right took r came ends all over w l = absurd came

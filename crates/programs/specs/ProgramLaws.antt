@@ -2,6 +2,7 @@
 use Rattle.std.specs.Prelude.{ℕ, suc, ◌+◌, ◌-◌, ◌^◌, ◌≤◌, ◌<◌, ◌≡◌, Bool, true, false, not, ◌&&◌, List, [], ◌++◌, length, take, drop, Option, refl, ℤ}
 use Rattle.std.proofs.Common.{arith, sym, ap, subst, ◌∙◌, append_assoc, length-drop, take-append-drop, drop_at, length-take-le, take_at}
 use Rattle.std.proofs.lemmas.Bool.{false≢true, not-false, not-true}
+use borrow.Rule.Slice.PartMut.{put_mid}
 use Rattle.std.proofs.KnownBytes.{Appends-nil, Appends-trans, Consumes-nil, Consumes-trans}
 use Rattle.std.specs.Io.KnownBytes.{Appends, Consumes}
 use Rattle.words.specs.SumLaws.{both_true}
@@ -45,10 +46,25 @@ module _ {table : Table} {reader : Lines} where
   -- ---- the code's return
 
   -- the first bytes of the buffer were lent and have come back
-  abbrev pub turned : {s t : State} {buffer back out out' : List ℕ} {area area' : List ℤ} {d : Listed} (sent : Bool) → s.held ≤ length buffer
+  pub turned : {s t : State} {buffer back out out' : List ℕ} {area area' : List ℤ} {d : Listed} (sent : Bool) (k : ℕ) → k ≡ s.held → s.held ≤ length buffer
+      → length back ≡ length (take k buffer) → Turn table reader (take k buffer) back s.last out out' area area' d
+      → t ≡ after_listing s d sent → Turned table reader s t buffer (put_mid 0 k buffer back) out out' area area'
+  turned {s} {buffer = buffer} {back} {out} {out'} {area} {area'} {d} sent k e h same turn state =
+      let n : length back ≡ s.held = same ∙ length-take-le k buffer (omega arith) ∙ e in
+      record {
+        listed = d;
+        sent = sent;
+        turn = subst (λ (i : ℕ). Turn table reader (take i buffer) (take s.held (back ++ drop k buffer)) s.last out out' area area' d) e
+            (subst (λ (b : List ℕ). Turn table reader (take k buffer) b s.last out out' area area' d) (sym (take_at back (drop k buffer) s.held n)) turn);
+        past = drop_at back (drop k buffer) s.held n ∙ ap (λ (i : ℕ). drop i buffer) e;
+        state = state;
+      }
+
+  -- the same, where so many bytes were lent as are held
+  abbrev pub turned_back : {s t : State} {buffer back out out' : List ℕ} {area area' : List ℤ} {d : Listed} (sent : Bool) → s.held ≤ length buffer
       → length back ≡ length (take s.held buffer) → Turn table reader (take s.held buffer) back s.last out out' area area' d
       → t ≡ after_listing s d sent → Turned table reader s t buffer (back ++ drop s.held buffer) out out' area area'
-  turned {s} {buffer = buffer} {back} {out} {out'} {area} {area'} {d} sent h same turn state =
+  turned_back {s} {buffer = buffer} {back} {out} {out'} {area} {area'} {d} sent h same turn state =
       let n : length back ≡ s.held = same ∙ length-take-le s.held buffer h in
       record {
         listed = d;

@@ -4,7 +4,7 @@ use Rattle.std.specs.Io.KnownBytes.{Appends}
 use Rattle.readers.specs.Readers.{lines_for}
 use Rattle.tables.specs.Tables.{ours}
 use Rattle.tables.specs.declared.Table.{Table}
-use Rattle.programs.proofs.Whole.{Listed-whole, neither, whole_listed, whole_refused}
+use Rattle.programs.proofs.Whole.{ListedWhole, neither, whole_listed, whole_refused}
 use Rattle.programs.proofs.run.Goals as goal
 
 pub returns-then-not-header_is_right : goal.returns-then-not-header_is_right
@@ -26,7 +26,7 @@ returns g c = λ e.
     let first = c.read_full-got.ensures in
     let all = c.list_all-s.ensures in
     let size : length (take c.read_full-got.result c.read_full-got.new.buffer) ≤ 5 = omega (arith, length-take-le c.read_full-got.result c.read_full-got.new.buffer first.within) in
-    subst (λ (t : Table). Listed-whole t (lines_for c.args.reader) (g.R.Read.remaining c.args.from.now.inner) (g.W.Write.contents c.args.to.now.inner) (g.W.Write.contents c.sent-2.new.to.inner)) c.ours.ensures
+    subst (λ (t : Table). ListedWhole t (lines_for c.args.reader) (g.R.Read.remaining c.args.from.now.inner) (g.W.Write.contents c.args.to.now.inner) (g.W.Write.contents c.sent-2.new.to.inner)) c.ours.ensures
     (whole_listed c.ours.result (lines_for c.args.reader) (g.R.Read.remaining c.args.from.now.inner) (g.R.Read.remaining c.read_full-got.new.from.inner)
     (g.R.Read.remaining c.list_all-s.new.from.inner) (g.W.Write.contents c.args.to.now.inner) (g.W.Write.contents c.list_all-s.new.to.inner)
     (g.W.Write.contents c.sent-2.new.to.inner) (take c.read_full-got.result c.read_full-got.new.buffer) size
