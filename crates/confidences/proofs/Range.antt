@@ -20,7 +20,7 @@ use Rattle.words.specs.SumLaws.{get_or-tabulate, length-tabulate}
 use Rattle.words.specs.Word.{bit}
 use Rattle.confidences.specs.Answers.{lowest_outside}
 use Rattle.confidences.specs.Confidences.{abstained, cut, greatest, project_values, read, share, sums, updated, values_after}
-use Rattle.confidences.proofs.Rounds.{sums_to}
+use Rattle.confidences.specs.FirstDirections.{sums_to}
 use Rattle.confidences.proofs.Signs.{cut_size, joint_size}
 use Rattle.confidences.specs.InRange.{InRange}
 

@@ -22,6 +22,7 @@ use Rattle.words.specs.Word.{IsWord, bit}
 use Rattle.words.proofs.WordLaws.{word_tabulate}
 use Rattle.confidences.specs.Confidences.{abstained, cut, ended, joint, leaves_after, lowest_zero, project_values, read, reading, round_leaves, share, signs_of, sums, updated, values_after, zero_place}
 use Rattle.confidences.specs.Blocks.{IsBlock, Nonzero}
+use Rattle.confidences.specs.FirstDirections.{abstained_to, leaves_to, sums_to}
 
 pub block_ext : {m : ℕ} {x y : List ℤ} → IsBlock m x → IsBlock m y → ((p : ℕ) → p < 2 ^ m → at x p ≡ at y p) → x ≡ y
 block_ext {m} {x} {y} hx hy h = ext_get_or (pos 0) x y (hx.size ∙ sym hy.size) (λ p l. h p (omega (arith, hx.size)))
@@ -43,57 +44,48 @@ at_project m b x q l = get_or-tabulate (2 ^ m) _ (pos 0) q l
 -- ---- a round
 
 module _ (m : ℕ) (lower : List ℤ → Outcome) where
-  -- of the first i directions: their sum at place p, how many abstained, and their leaves
+  -- of the first i directions
   module _ (x : List ℤ) where
-    abbrev pub sums_to : ℕ → ℕ → ℤ
-    sums_to i p = sum_below_ℤ i (λ j. share (suc j) x (read m lower x j) p)
-
-    abbrev pub abstained_to : ℕ → ℕ
-    abstained_to i = sum_below i (λ j. abstains (read m lower x j))
-
-    abbrev pub leaves_to : ℕ → ℕ
-    leaves_to i = sum_below i (λ j. leaves_of (read m lower x j))
-
     -- of all
-    pub sums_all : (p : ℕ) → sums m lower x p ≡ sums_to (2 ^ suc m - 1) p
+    pub sums_all : (p : ℕ) → sums m lower x p ≡ sums_to m lower x (2 ^ suc m - 1) p
     unfolding sums
     sums_all p = refl
 
-    pub abstained_all : abstained m lower x ≡ abstained_to (2 ^ suc m - 1)
+    pub abstained_all : abstained m lower x ≡ abstained_to m lower x (2 ^ suc m - 1)
     unfolding abstained
     abstained_all = refl
 
-    pub leaves_all : round_leaves m lower x ≡ leaves_to (2 ^ suc m - 1)
+    pub leaves_all : round_leaves m lower x ≡ leaves_to m lower x (2 ^ suc m - 1)
     unfolding round_leaves
     leaves_all = refl
 
     -- of none, and of one more
-    pub sums_none : (p : ℕ) → sums_to 0 p ≡ pos 0
+    pub sums_none : (p : ℕ) → sums_to m lower x 0 p ≡ pos 0
     unfolding total
     sums_none p = refl
 
-    pub sums_more : (i p : ℕ) → sums_to (suc i) p ≡ sums_to i p +ℤ share (suc i) x (read m lower x i) p
+    pub sums_more : (i p : ℕ) → sums_to m lower x (suc i) p ≡ sums_to m lower x i p +ℤ share (suc i) x (read m lower x i) p
     unfolding total
     sums_more i p = refl
 
-    pub abstained_none : abstained_to 0 ≡ 0
+    pub abstained_none : abstained_to m lower x 0 ≡ 0
     unfolding total
     abstained_none = refl
 
-    pub abstained_more : (i : ℕ) → abstained_to (suc i) ≡ abstained_to i + abstains (read m lower x i)
+    pub abstained_more : (i : ℕ) → abstained_to m lower x (suc i) ≡ abstained_to m lower x i + abstains (read m lower x i)
     unfolding total
     abstained_more i = refl
 
-    pub leaves_to_none : leaves_to 0 ≡ 0
+    pub leaves_to_none : leaves_to m lower x 0 ≡ 0
     unfolding total
     leaves_to_none = refl
 
-    pub leaves_to_more : (i : ℕ) → leaves_to (suc i) ≡ leaves_to i + leaves_of (read m lower x i)
+    pub leaves_to_more : (i : ℕ) → leaves_to m lower x (suc i) ≡ leaves_to m lower x i + leaves_of (read m lower x i)
     unfolding total
     leaves_to_more i = refl
 
     -- the leaves of some directions are no more than the round's
-    pub leaves_to_prefix : (i : ℕ) → i ≤ 2 ^ suc m - 1 → leaves_to i ≤ round_leaves m lower x
+    pub leaves_to_prefix : (i : ℕ) → i ≤ 2 ^ suc m - 1 → leaves_to m lower x i ≤ round_leaves m lower x
     unfolding round_leaves
     leaves_to_prefix i h = sum_prefix (2 ^ suc m - 1) i _ h
 

@@ -1,6 +1,5 @@
 -- What a program that lists its input keeps from turn to turn. Assumes nothing.
-use Rattle.std.specs.Prelude.{ℕ, ◌+◌, ◌-◌, ◌^◌, ◌≤◌, min, ◌≡◌, true, false, cond, ◌||◌, List, eqb, length, take, drop}
-use Rattle.std.specs.Prelude.{Bool, Option}
+use Rattle.std.specs.Prelude.{ℕ, ◌+◌, ◌-◌, ◌^◌, ◌≤◌, min, ◌≡◌, Bool, true, false, cond, ◌||◌, List, eqb, length, take, drop, Option}
 use Rattle.std.specs.Io.KnownBytes.{IsAtEnd}
 use Rattle.turns.specs.declared.State.{State}
 

@@ -21,7 +21,8 @@ use Rattle.steps.specs.declared.Count.TheVariants.{Done, Exhausted}
 use Rattle.confidences.specs.Confidences.{project_values, reading, round_leaves}
 use Rattle.confidences.specs.Confidences as confidences
 use Rattle.confidences.proofs.Range.{project_range}
-use Rattle.confidences.proofs.Rounds.{leaves_all, leaves_to, leaves_to_more, leaves_to_none, leaves_to_prefix, project_block}
+use Rattle.confidences.proofs.Rounds.{leaves_all, leaves_to_more, leaves_to_none, leaves_to_prefix, project_block}
+use Rattle.confidences.specs.FirstDirections.{leaves_to}
 use Rattle.confidences.proofs.ValueLaws.{front_is, front_values, same_front}
 use Rattle.confidences.specs.Values.{Projects, Sums, front_of}
 use Rattle.value_orders.specs.declared.ends.Ended.{Ended}

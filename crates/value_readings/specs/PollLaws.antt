@@ -11,7 +11,8 @@ use Rattle.steps.specs.declared.Count.TheVariants.{Done, Exhausted}
 use Rattle.confidences.specs.Confidences.{abstained, cut, read, round_leaves, share, sums}
 use Rattle.confidences.specs.InRange.{InRange}
 use Rattle.confidences.proofs.Range.{sums_small}
-use Rattle.confidences.proofs.Rounds.{abstained_all, abstained_none, abstained_to, at-updated, sums_all, sums_none, sums_to}
+use Rattle.confidences.proofs.Rounds.{abstained_all, abstained_none, at-updated, sums_all, sums_none}
+use Rattle.confidences.specs.FirstDirections.{abstained_to, sums_to}
 use Rattle.confidences.proofs.ValueLaws.{front_range, same_front, same_values}
 use Rattle.confidences.specs.Values.{Projects, Sums, front_of}
 use Rattle.value_readings.specs.Polls.{Poll, Polled, Renewed, Rounded, new_at}

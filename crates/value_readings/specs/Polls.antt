@@ -12,7 +12,7 @@ use Rattle.told.specs.declared.Verdict.TheVariants.{Accepted, Refused}
 use Rattle.steps.specs.Steps.{count_of}
 use Rattle.steps.specs.declared.Count.{Count}
 use Rattle.confidences.specs.Confidences.{abstained, cut, greatest, round_leaves, updated}
-use Rattle.confidences.proofs.Rounds.{abstained_to, sums_to}
+use Rattle.confidences.specs.FirstDirections.{abstained_to, sums_to}
 use Rattle.confidences.specs.Values.{Values, front_of}
 use Rattle.value_orders.specs.Leaves.{Leaf}
 
