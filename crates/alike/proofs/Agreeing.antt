@@ -11,7 +11,8 @@ use Rattle.rule.specs.Reading.{Outcome}
 use Rattle.rule.specs.Decoding.{number_in, decode_call, decode_profile_call}
 use Rattle.rule.proofs.DecodingLaws.{number_is}
 use Rattle.rule.specs.Calls.{Decodes}
-use Rattle.rule.proofs.Demand3.{Agree, demand_3_call, demand_3_profile_call}
+use Rattle.rule.specs.Demand3.{Agree}
+use Rattle.rule.proofs.Demand3.{demand_3_call, demand_3_profile_call}
 use Rattle.alike.specs.Alike.{Differ, Fit, Alike}
 use Rattle.alike.specs.AlikeLaws.{sizes}
 use Rattle.tables.specs.declared.Table.{Table}

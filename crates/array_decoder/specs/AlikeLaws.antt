@@ -3,11 +3,10 @@ use Rattle.std.specs.Prelude.{ℕ, ◌+◌, ◌≡◌, refl, List, length, ℤ}
 use Rattle.std.proofs.Common.{sym, ap, ◌∙◌, arith}
 use Rattle.words.specs.Word.{IsWord, add_words}
 use Rattle.rule.specs.Decoding.{output_of, refusal_of}
-use Rattle.rule.specs.Shift.{shift}
-use Rattle.rule.proofs.Outcomes.{leaves_shift}
+use Rattle.rule.specs.Outcomes.{shift, leaves_shift}
 use Rattle.rule.specs.Reading.{Outcome, accepted, leaves_of, refused}
-use Rattle.arrays.specs.ArraySizes.{RightArray}
-use Rattle.arrays.proofs.ArrayCalls.{Sound, arrays_alike, call_sound}
+use Rattle.arrays.specs.ArraySizes.{RightArray, Sound}
+use Rattle.arrays.proofs.ArrayCalls.{arrays_alike, call_sound}
 use Rattle.arrays.specs.Arrays.{array_call}
 use Rattle.array_decoder.specs.declared.ArrayDecoded.{ArrayDecoded}
 use Rattle.array_decoder.specs.Alike.{AlikeArrays, DifferArrays, FitArray}

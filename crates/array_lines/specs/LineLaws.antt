@@ -12,7 +12,7 @@ use Rattle.refusals.specs.declared.Decoded.TheVariants.{Accepted, Refused}
 use Rattle.refusals.specs.declared.Refusal.{Refusal}
 use Rattle.rule.specs.Calls.{Decodes, values_of}
 use Rattle.rule.specs.Decoding.{Values, answer_of, output_of, values}
-use Rattle.rule.proofs.Demand3.{Sound}
+use Rattle.rule.specs.Demand3.{Sound}
 use Rattle.rule.specs.Reading.{Outcome, accepted, leaves_of, refused}
 use Rattle.decoder.specs.Runs.{Runs}
 use Rattle.arrays.specs.Arrays.{line_left, line_read}

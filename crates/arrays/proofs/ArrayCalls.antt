@@ -13,16 +13,16 @@ use Rattle.words.specs.Word.{IsWord, add_words, bit}
 use Rattle.words.proofs.WordLaws.{add_cancel}
 use Rattle.refusals.proofs.CheckLaws.{bits_pass, bits_tested, passed, passes, rest_passes}
 use Rattle.refusals.specs.Refusals.{Check, first_refusal}
-use Rattle.rule.proofs.Counts.{most_leaves}
+use Rattle.rule.specs.Counts.{most_leaves}
 use Rattle.rule.specs.Decoding.{after, limit_checks}
 use Rattle.rule.proofs.DecodingLaws.{after_cases, after-shift}
-use Rattle.rule.specs.Shift.{shift}
+use Rattle.rule.specs.Outcomes.{shift}
 use Rattle.rule.specs.Reading.{Outcome, accepted, leaves_of, refused}
 use Rattle.arrays.specs.Arrays.{IsArray, array, array_buffers, array_call, array_limits, array_read, array_test, column, column_leaves, columns_left, row, row_leaves, rows_left, side_checks}
 use Rattle.arrays.proofs.ArrayLaws.{array_of_test, array_read_add, column_of, columns_word, row_of, rows_word, test_of_array}
 use Rattle.arrays.specs.IsSide.{IsSide}
 use Rattle.arrays.proofs.Lines.{leaves_clean, leaves_most, left_clean}
-use Rattle.arrays.specs.ArraySizes.{IsLimits, Passed, RightArray}
+use Rattle.arrays.specs.ArraySizes.{IsLimits, Passed, RightArray, Sound}
 
 pub side_passed : (m r : ℕ) (cs : List Check) → first_refusal (side_checks m r ++ cs) ≡ 0 → IsSide m r × (first_refusal cs ≡ 0)
 side_passed m r cs e =
@@ -66,11 +66,6 @@ array_sized {mr} {mc} {word} {room} {area} e =
 
 few : {m r : ℕ} → IsSide m r → 2 ^ m ≤ 64
 few s = pow_mono {j = 6} s.most
-
--- an accepted output is an array of codewords, and no refusal has the number 0
-abbrev pub Sound : ℕ → ℕ → ℕ → ℕ → Outcome → Type 0
-Sound mr rr mc rc (accepted d k l) = IsArray mr rr mc rc d
-Sound mr rr mc rc (refused e k l) = 0 < e
 
 module _ {mr rr mc rc rounds leaves : ℕ} (p : Passed mr rr mc rc rounds leaves) where
   -- ---- a clean array

@@ -6,7 +6,7 @@ use Rattle.words.specs.Word.{IsWord, add_words, bit}
 use Rattle.words.proofs.WordLaws.{word_add, word_bit, word_ext, word_tabulate}
 use Rattle.code.specs.Code.{IsCodeword, codeword_test}
 use Rattle.code.proofs.Codewords.{codeword_of_test, test_add, test_of_codeword}
-use Rattle.rule.specs.Shift.{shift}
+use Rattle.rule.specs.Outcomes.{shift}
 use Rattle.rule.specs.Reading.{accepted, leaves_of, refused}
 use Rattle.arrays.specs.Arrays.{IsArray, array, array_read, array_test, column, column_leaves, columns_left, columns_test, line_left, line_read, row, row_leaves, rows_left, rows_test}
 use Rattle.arrays.specs.IsSide.{IsSide}

@@ -6,14 +6,15 @@ use Rattle.words.specs.SumLaws.{bit_tabulate}
 use Rattle.words.specs.Word.{IsWord, add_words, bit}
 use Rattle.words.proofs.WordLaws.{word_add, word_bit, word_ext, word_tabulate}
 use Rattle.code.specs.Code.{IsCodeword}
-use Rattle.rule.proofs.Clean.{clean_rounds, reading_clean}
-use Rattle.rule.proofs.Counts.{most_leaves, reading_noise}
+use Rattle.rule.specs.Counts.{clean_rounds, most_leaves}
+use Rattle.rule.proofs.Clean.{reading_clean}
+use Rattle.rule.proofs.Counts.{reading_noise}
 use Rattle.rule.proofs.Covariance.{reading_add, reading_in}
 use Rattle.rule.specs.Decoding.{limited, output_of}
 use Rattle.rule.proofs.DecodingLaws.{limited_cases, limited-shift}
-use Rattle.rule.proofs.Demand3.{Sound, sound}
-use Rattle.rule.specs.Shift.{shift}
-use Rattle.rule.proofs.Outcomes.{leaves_shift}
+use Rattle.rule.specs.Demand3.{Sound}
+use Rattle.rule.proofs.Demand3.{sound}
+use Rattle.rule.specs.Outcomes.{shift, leaves_shift}
 use Rattle.rule.specs.Reading.{Outcome, accepted, leaves_of, reading, refused}
 use Rattle.arrays.specs.Arrays.{line_left, line_read}
 use Rattle.arrays.specs.IsSide.{IsSide}

@@ -1,9 +1,11 @@
--- Calls on arrays: the limits, both codes that passed their checks, and buffers of the right sizes. Assumes nothing.
-use Prim.Native.Nat.{ℕ, ◌+◌, ◌*◌, ◌^◌, ◌≤◌, max}
+-- Calls on arrays: the limits, both codes that passed their checks, buffers of the right sizes, and sound answers. Assumes nothing.
+use Prim.Native.Nat.{ℕ, ◌+◌, ◌*◌, ◌^◌, ◌≤◌, max, ◌<◌}
 use Rattle.std.specs.Prelude.{◌≡◌}
 use mathlib.Core.List.{List}
 use Rattle.words.specs.Word.{IsWord}
 use Rattle.arrays.specs.IsSide.{IsSide}
+use Rattle.rule.specs.Reading.{Outcome, accepted, refused}
+use Rattle.arrays.specs.Arrays.{IsArray}
 
 pub record IsLimits (rounds leaves : ℕ) : Type 0 where
   pub rounds_least : 1 ≤ rounds
@@ -22,3 +24,8 @@ pub record RightArray (mr mc : ℕ) (word : List ℕ) (room area : ℕ) : Type 0
   pub input : IsWord (mc + mr) word
   pub output : room ≡ 2 ^ (mc + mr)
   pub lent : 8 * 2 ^ max mr mc ≤ area
+
+-- an accepted output is an array of codewords, and no refusal has the number 0
+abbrev pub Sound : ℕ → ℕ → ℕ → ℕ → Outcome → Type 0
+Sound mr rr mc rc (accepted d k l) = IsArray mr rr mc rc d
+Sound mr rr mc rc (refused e k l) = 0 < e

@@ -1,4 +1,5 @@
--- Definitions: Arrays; what statements above speak of: IsSide, ArraySizes. Laws: proofs/.
+-- Definitions: Arrays. What theorems and statements above speak of: IsSide, ArraySizes, WorkedTable. The laws are in proofs/.
 pub mod Arrays
 pub mod IsSide
 pub mod ArraySizes
+pub mod WorkedTable

@@ -9,7 +9,8 @@ use Rattle.refusals.proofs.CheckLaws.{number_pos}
 use Rattle.profiles.specs.declared.Profile.{Profile}
 use Rattle.rule.specs.Reading.{Outcome, accepted, refused}
 use Rattle.rule.specs.Decoding.{values, answer_of, output_of}
-use Rattle.rule.proofs.Demand3.{Sound, decode_sound}
+use Rattle.rule.specs.Demand3.{Sound}
+use Rattle.rule.proofs.Demand3.{decode_sound}
 use Rattle.rule.specs.Calls.{values_of}
 use Rattle.lines.specs.Lines.{decoded_by}
 use Rattle.billing.specs.Accepted.{AcceptedWord, Answered}

@@ -10,12 +10,7 @@ use Rattle.words.specs.SumLaws.{sum_ext, sum_halves, sum_most, sum_zero}
 use Rattle.words.specs.TopBit.{ones_top}
 use Rattle.words.specs.Word.{indicator}
 use Rattle.words.proofs.WordLaws.{indicator-lt}
-
--- n over k
-unfoldable pub choose : ℕ → ℕ → ℕ
-choose n zero = 1
-choose zero (suc k) = 0
-choose (suc n) (suc k) = choose n k + choose n (suc k)
+use Rattle.code.specs.Dimension.{choose}
 
 -- a mask with the top bit has one more one
 dimension_halves : (m r : ℕ) → dimension (suc m) r ≡ dimension m r + sum_below (2 ^ m) (λ A. indicator (leb (suc (degree A)) r))

@@ -15,7 +15,7 @@ use Rattle.code.specs.TestSteps.{all_equal, first_half, sum_halves}
 use Rattle.words.specs.Sum.{all_below, total}
 use Rattle.words.specs.SumLaws.{all_ext, all_true, true_all, both_true, same_test}
 use Rattle.words.specs.Word.{IsWord, bit}
-use Rattle.code.specs.FirstOrder.{repeats_below, repeats, levels_test}
+use Rattle.code.specs.FirstOrder.{repeats, levels_test}
 
 true_both : (a b : Bool) → a ≡ true → b ≡ true → a && b ≡ true
 true_both a b ea eb = rw (ea, eb) refl

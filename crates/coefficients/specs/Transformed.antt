@@ -1,16 +1,14 @@
 -- The list of a word's coefficients: of a spread message it is the codeword, and of a codeword it has the message. Assumes nothing.
-use Rattle.std.specs.Prelude.{ℕ, zero, suc, ◌+◌, ◌%◌, ◌^◌, ◌<◌, ◌≡◌, refl, Bool, List, [], ◌∷◌, ◌++◌, length, leb, eqb}
-use Rattle.std.proofs.Common.{sym, ap₂, ◌∙◌, arith, le-leb}
+use Rattle.std.specs.Prelude.{ℕ, zero, suc, ◌%◌, ◌^◌, ◌<◌, ◌≡◌, refl, List, [], ◌∷◌, ◌++◌, length, leb, eqb}
+use Rattle.std.proofs.Common.{sym, ap₂, ◌∙◌, arith}
 use Rattle.std.proofs.Math.Path.{ap}
 use Rattle.std.proofs.Math.Bool.{true, cond}
 use Rattle.std.proofs.Math.Decide.{dec_le}
-use Rattle.std.proofs.lemmas.Bool.{lt-leb}
 use Rattle.words.specs.Sum.{tabulate}
-use Rattle.words.specs.SumLaws.{all_ext, bit_tabulate, length-tabulate, tabulate_ext}
+use Rattle.words.specs.SumLaws.{all_ext, bit_tabulate, length-tabulate}
 use Rattle.words.specs.Word.{bit, IsWord}
 use Rattle.words.proofs.WordLaws.{word_tabulate, word_ext}
-use Rattle.code.specs.Code.{degree, rank, dimension, spread, codeword, coefficient, low_test, codeword_test, gather, message_of}
-use Rattle.code.proofs.Codewords.{coefficient-lt}
+use Rattle.code.specs.Code.{degree, rank, spread, codeword, coefficient, low_test, codeword_test, gather, message_of}
 use Rattle.code.specs.Degree.{coef, coef_parity}
 use Rattle.code.proofs.Inverse.{codeword-coef, encoder_codeword, spread_high}
 use Rattle.code.proofs.MessageLaws.{spread_in}

@@ -11,7 +11,7 @@ use Rattle.refusals.specs.declared.Decoded.{Decoded}
 use Rattle.rule.specs.Calls.{decoded_place, values_of}
 use Rattle.rule.specs.Decoding.{limited, output_of, refusal_of, zeros}
 use Rattle.rule.proofs.DecodingLaws.{limited_cases}
-use Rattle.rule.proofs.Outcomes.{CodewordIn}
+use Rattle.rule.specs.Outcomes.{CodewordIn}
 use Rattle.rule.specs.Reading.{Outcome, refused}
 use Rattle.told.specs.Told.{noise_number}
 use Rattle.steps.specs.Answers.{Numbered, by_answer, limited_numbered}

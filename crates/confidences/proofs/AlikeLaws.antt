@@ -13,8 +13,8 @@ use Rattle.refusals.proofs.CheckLaws.{fails, passes, then}
 use Rattle.refusals.specs.Refusals.{check, code_checks, first_refusal}
 use Rattle.rule.specs.Decoding.{after, answer_of, limit_checks, limited, number_in, output_of, refusal_of}
 use Rattle.rule.proofs.DecodingLaws.{after_same, number_is}
-use Rattle.rule.proofs.Demand3.{Agree, Sound}
-use Rattle.rule.specs.Shift.{shift}
+use Rattle.rule.specs.Demand3.{Agree, Sound}
+use Rattle.rule.specs.Outcomes.{shift}
 use Rattle.rule.proofs.ProfileLaws.{profile_passes}
 use Rattle.rule.specs.Reading.{Outcome, accepted, refused}
 use Rattle.confidences.specs.Alike.{AlikeValues, DifferValues, RightRoom, unmended}

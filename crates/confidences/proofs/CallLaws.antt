@@ -12,18 +12,19 @@ use Rattle.tables.specs.Limits.{is_known}
 use Rattle.refusals.specs.IsCode.{IsCode}
 use Rattle.refusals.proofs.CheckLaws.{all_kept, code_passed, first_kept, passed, passes, rest_same}
 use Rattle.refusals.specs.Refusals.{Check, area_kept, check, code_checks, first_refusal}
-use Rattle.rule.proofs.Counts.{Leaf}
+use Rattle.rule.specs.Counts.{Leaf, Not12}
 use Rattle.rule.specs.Decoding.{after, limit_checks, limited, profile_checks, refusal_of}
 use Rattle.rule.proofs.DecodingLaws.{after_cases, after_same, after-shift, limited_above, limited_cases, limited-shift, limited_within}
-use Rattle.rule.proofs.Demand3.{Agree, Sound, agree}
-use Rattle.rule.specs.Shift.{shift}
-use Rattle.rule.proofs.Outcomes.{CodewordIn}
-use Rattle.rule.proofs.ProfileLaws.{Not12, number_passed, profile_code, profile_most}
+use Rattle.rule.specs.Demand3.{Agree, Sound}
+use Rattle.rule.proofs.Demand3.{agree}
+use Rattle.rule.specs.Outcomes.{shift, CodewordIn}
+use Rattle.rule.proofs.ProfileLaws.{number_passed, profile_code, profile_most}
 use Rattle.rule.specs.Reading.{Outcome, accepted, leaves_of, refused}
 use Rattle.confidences.specs.Alike.{RightRoom}
 use Rattle.confidences.specs.Answers.{confidence_call, confidence_profile_call, confidence_table_call, lowest_outside, value_checks, value_place}
 use Rattle.confidences.specs.Confidences.{negated, reading, signs_of, zero_place}
-use Rattle.confidences.proofs.Counts.{ByNoise, full_leaves, noise_by, reading_erased, reading_leaf, reading_leaves, reading_most, reading_noise}
+use Rattle.confidences.specs.Counts.{ByNoise, full_leaves}
+use Rattle.confidences.proofs.Counts.{noise_by, reading_erased, reading_leaf, reading_leaves, reading_most, reading_noise}
 use Rattle.confidences.proofs.Likeness.{negated_block, outside_like, reading_in, reading_like, signs_like, zero_place_like}
 use Rattle.confidences.specs.Blocks.{IsBlock, Nonzero}
 use Rattle.confidences.proofs.Rounds.{signs_word}

@@ -21,9 +21,9 @@ use Rattle.hadamard.specs.AffineWords.{bit-affine, constant_affine}
 use Rattle.hadamard.specs.Correlation.{affine, constant_of, correlation, signed}
 use Rattle.hadamard.specs.CorrelationLaws.{correlation-zero, signed_near, swap4}
 use Rattle.hadamard.specs.Spread.{affine_apart}
-use Rattle.rule.proofs.Counts.{most_leaves}
+use Rattle.rule.specs.Counts.{most_leaves}
 use Rattle.rule.proofs.Order1.{order1_alone, sizes}
-use Rattle.rule.specs.Shift.{shift}
+use Rattle.rule.specs.Outcomes.{shift}
 use Rattle.rule.specs.Reading.{Outcome, abstains, accepted, by_sum, constant, leaves_of, order0, order1}
 use Rattle.words.specs.Sum.{sum_below, sum_below_ℤ, total}
 use Rattle.words.specs.SumLaws.{bit_tabulate, sum_ext, sum_le, sum_more, sum_plus, sum_prefix, sum_zero, sum_ℤ_ext}
@@ -43,11 +43,12 @@ use Rattle.confidences.proofs.AlikeLaws.{profile_limits}
 use Rattle.confidences.specs.Answers.{confidence_call, confidence_profile_call, lowest_outside, value_checks}
 use Rattle.confidences.proofs.CallLaws.{sized}
 use Rattle.confidences.specs.Confidences.{abstained, cut, ended, greatest, joint, leaves_after, lowest_zero, negated, project_values, read, reading, share, signs_of, sums, updated, values_after}
-use Rattle.confidences.proofs.Counts.{full_leaves, most_full, reading_most}
+use Rattle.confidences.specs.Counts.{full_leaves, rounds_made}
+use Rattle.confidences.proofs.Counts.{most_full, reading_most}
 use Rattle.confidences.proofs.Likeness.{at-negated, negated_block, reading_like}
 use Rattle.confidences.specs.InRange.{InRange}
 use Rattle.confidences.proofs.Range.{range_passes}
-use Rattle.confidences.specs.Blocks.{IsBlock, Nonzero}
+use Rattle.confidences.specs.Blocks.{IsBlock, Nonzero, CleanBlock}
 use Rattle.confidences.proofs.Rounds.{at_project, bit_signs, block_ext, ended_codeword, reading_one, reading-zero, signs_word, updated-cut, zero_first}
 use Rattle.confidences.proofs.Signs.{by_positive, signed_twice}
 
@@ -285,12 +286,6 @@ ended_positive m r x k l h =
       | no b ↦ omega arith
     ]
 
--- the rounds of a reading at order r that decodes
-abbrev pub rounds_made : ℕ → ℕ → ℕ
-rounds_made zero limit = 0
-rounds_made (suc zero) limit = 0
-rounds_made (suc (suc r)) limit = limit
-
 counted : (r m limit : ℕ) (x : List ℤ) (d : List ℕ) (k l : ℕ) → reading r m limit x ≡ accepted d k l → reading r m limit x ≡ accepted d k (most_leaves r m limit)
 counted r m limit x d k l e = e ∙ ap (accepted d k) (ap leaves_of (sym e) ∙ reading_most r m limit x)
 
@@ -331,13 +326,6 @@ clean_values r m limit h hm x hx some hc =
     ∙ ap₂ (λ (d : List ℕ) (l : ℕ). accepted d (rounds_made r limit) l) (zeros_add m c hc.word) (most_full r m limit h)
 
 -- ---- calls
-
--- values in range, none of them 0, whose signs are a codeword
-pub record CleanBlock (m r : ℕ) (x : List ℤ) : Type 0 where
-  pub block : IsBlock m x
-  pub range : InRange x
-  pub some : Nonzero m x
-  pub codeword : IsCodeword m r (signs_of m x)
 
 values_pass : {m : ℕ} {x : List ℤ} → IsBlock m x → InRange x → {room area : ℕ} → RightRoom m room area → 0 ≡ first_refusal (value_checks m x room area)
 values_pass {m} {x} hx range fits = passes 18 _ _ (le-leb (length x) (lowest_outside x) (range_passes x range)) no_more ∙ sized hx fits

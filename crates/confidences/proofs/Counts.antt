@@ -4,19 +4,15 @@ use Rattle.std.specs.Prelude.{◌≡◌, refl, List, ◌⊎◌, ℤ}
 use Rattle.std.proofs.Common.{sym, ap, ap₂, ◌∙◌, inl, inr, ⊎_elim, mul-one, mul_assoc, mul_comm, mul_left_comm, one-mul, pow-suc, arith}
 use Rattle.std.proofs.Math.Numerals.{unary_clauses}
 use Rattle.area.specs.Area.{at}
-use Rattle.rule.proofs.Counts.{Leaf, leaf_leaves, most_leaves, order0_leaf, order1_leaf}
+use Rattle.rule.specs.Counts.{Leaf, most_leaves}
+use Rattle.rule.proofs.Counts.{leaf_leaves, order0_leaf, order1_leaf}
 use Rattle.rule.specs.Decoding.{refusal_of}
 use Rattle.rule.specs.Reading.{Outcome, accepted, leaves_of, refused}
 use Rattle.words.specs.Sum.{total}
 use Rattle.words.specs.SumLaws.{sum_same, total_ext}
 use Rattle.confidences.specs.Confidences.{leaves_after, project_values, reading, round_leaves, values_after}
 use Rattle.confidences.proofs.Rounds.{ended_cases, ended_leaves}
-
--- "the full leaf count": each round reads n - 1 directions, at each of the r - 1 orders above 1, of exponents j = m - i; "exactly the round
--- limit of rounds is made"
-unfoldable pub full_leaves : ℕ → ℕ → ℕ → ℕ
-full_leaves zero m rounds = 0
-full_leaves (suc r) m rounds = rounds ^ r * total ◌*◌ 1 r (λ i. 2 ^ (m - i) - 1)
+use Rattle.confidences.specs.Counts.{full_leaves, AllRounds, ByNoise}
 
 -- ---- numbers and rounds
 
@@ -27,22 +23,12 @@ reading_leaf zero m limit x h = order0_leaf m (at x)
 reading_leaf (suc zero) m limit x h = order1_leaf m (at x)
 reading_leaf (suc (suc r)) m limit x h = absurd (omega arith)
 
--- order 2 and above: exactly the round limit of rounds, and a refusal is 17 or 11
-abbrev pub AllRounds : ℕ → Outcome → Type 0
-AllRounds limit (accepted d k l) = k ≡ limit
-AllRounds limit (refused e k l) = ((e ≡ 17) ⊎ (e ≡ 11)) × (k ≡ limit)
-
 pub reading_rounds : (r m limit : ℕ) (x : List ℤ) → 2 ≤ r → AllRounds limit (reading r m limit x)
 unfolding reading
 reading_rounds zero m limit x h = absurd (omega arith)
 reading_rounds (suc zero) m limit x h = absurd (omega arith)
 reading_rounds (suc (suc r)) m limit x h =
     ended_cases m (suc (suc r)) _ limit _ (AllRounds limit) (λ z. (inl refl, refl)) (λ z e. refl) (λ z. (inr refl, refl))
-
--- a refusal is 9, 11 or 17, and never 10
-abbrev pub ByNoise : Outcome → Type 0
-ByNoise (accepted d k l) = Unit {0}
-ByNoise (refused e k l) = (e ≡ 9) ⊎ ((e ≡ 11) ⊎ (e ≡ 17))
 
 leaf_noise : (r : ℕ) (o : Outcome) → Leaf r o → ByNoise o
 leaf_noise r (accepted d k l) h = tt

@@ -18,8 +18,7 @@ use Rattle.hadamard.specs.Correlation.{constant_of, signed}
 use Rattle.hadamard.specs.CorrelationLaws.{nat_abs-signed, sum_signed}
 use Rattle.rule.proofs.Order0.{order0_in, order0-signed}
 use Rattle.rule.proofs.Order1.{order1_in, order1-signed}
-use Rattle.rule.specs.Shift.{shift}
-use Rattle.rule.proofs.Outcomes.{CodewordIn, leaves_shift}
+use Rattle.rule.specs.Outcomes.{shift, CodewordIn, leaves_shift}
 use Rattle.rule.specs.Reading.{Outcome, abstains, accepted, leaves_of, refused}
 use Rattle.rule.proofs.Rounds.{settled}
 use Rattle.words.specs.Search.{where_ext}

@@ -33,11 +33,7 @@ use Rattle.confidences.proofs.Range.{range_passes}
 use Rattle.confidences.specs.Blocks.{IsBlock}
 use Rattle.confidences.proofs.Rounds.{bit_signs, signs_word}
 use Rattle.confidences.proofs.Signs.{by_negative, by_positive}
-
--- the values x are v where the word w is 0 and −v where it is 1
-pub record OneMagnitude (m v : ℕ) (w : List ℕ) (x : List ℤ) : Type 0 where
-  pub block : IsBlock m x
-  pub each : (p : ℕ) → p < 2 ^ m → at x p ≡ signed (bit w p) (pos v)
+use Rattle.confidences.specs.OneMagnitude.{OneMagnitude}
 
 -- ---- multiplying by v
 

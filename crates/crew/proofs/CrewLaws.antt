@@ -7,7 +7,8 @@ use Rattle.code.specs.Code.{IsCodeword}
 use Rattle.profiles.specs.declared.Profile.{Profile}
 use Rattle.rule.specs.Reading.{Outcome, accepted, refused}
 use Rattle.rule.specs.Decoding.{Values, answer_of}
-use Rattle.rule.proofs.Demand3.{Sound, decode_sound, demand_3}
+use Rattle.rule.specs.Demand3.{Sound}
+use Rattle.rule.proofs.Demand3.{decode_sound, demand_3}
 use Rattle.text.specs.Numbers.{ten_digits}
 use Rattle.text.specs.TextLaws.{decimal-length, ten_length}
 use Rattle.lines.specs.Lines.{accepted_in, decoded_by, entry, hyphens, record_entry}

@@ -27,7 +27,7 @@ use Rattle.rule.proofs.DecodingLaws.{after_cases, buffers_passed, limited_cases,
 use Rattle.rule.proofs.ProfileLaws.{profile_code, profile_passes}
 use Rattle.rule.specs.Calls.{Decodes, decoded_place, values_of}
 use Rattle.rule.proofs.Covariance.{reading_in}
-use Rattle.rule.proofs.Outcomes.{CodewordIn}
+use Rattle.rule.specs.Outcomes.{CodewordIn}
 use Rattle.rule.proofs.Counts.{leaf_leaves, reading_leaf}
 use Rattle.told.specs.Told.{numbers_of, numbers_in, Holds, Kept, Read}
 use Rattle.told.specs.declared.Told.{Told}

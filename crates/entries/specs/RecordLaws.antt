@@ -14,7 +14,8 @@ use Rattle.tables.specs.Limits.{InLimits}
 use Rattle.rule.specs.Reading.{Outcome, accepted, refused}
 use Rattle.rule.specs.Decoding.{answer_of, area_of, decode_call, output_of, zeros}
 use Rattle.rule.proofs.DecodingLaws.{call_is}
-use Rattle.rule.proofs.Demand3.{Sound, decode_sound}
+use Rattle.rule.specs.Demand3.{Sound}
+use Rattle.rule.proofs.Demand3.{decode_sound}
 use Rattle.rule.specs.Calls.{Decodes}
 use Rattle.lines.specs.Lines.{Lines, accepted_by, accepted_in, decoded_by, record_entry}
 use Rattle.code.proofs.Dimension.{dimension_most}

@@ -11,7 +11,8 @@ use Rattle.hadamard.specs.Correlation.{affine, constant_of, correlation, first_b
 use Rattle.hadamard.specs.CorrelationLaws.{correlation_add, far_distance, nat_abs-signed, near_distance}
 use Rattle.hadamard.specs.Peak.{peak}
 use Rattle.hadamard.specs.Spread.{correlations_spread}
-use Rattle.rule.proofs.Nearest.{Nearest, nearest_accepted, order1_judged}
+use Rattle.rule.specs.Nearest.{Nearest}
+use Rattle.rule.proofs.Nearest.{nearest_accepted, order1_judged}
 use Rattle.rule.proofs.Order1.{alone_pos, candidate, order1_alone, order1_shared, sizes}
 use Rattle.rule.specs.Reading.{Outcome, accepted, order1, reading, refused}
 use Rattle.words.specs.Sum.{greatest_below}

@@ -15,7 +15,8 @@ use Rattle.code.proofs.Dimension.{dimension_most}
 use Rattle.codec_checks.specs.Checks.{encode_checks, read_checks}
 use Rattle.profiles.specs.declared.Profile.{Profile}
 use Rattle.profiles.specs.Profiles.{profile_of}
-use Rattle.rule.proofs.Counts.{Leaf, ByNoise, Rounds, reading_leaf, reading_noise, reading_rounds}
+use Rattle.rule.specs.Counts.{Leaf, ByNoise, Rounds}
+use Rattle.rule.proofs.Counts.{reading_leaf, reading_noise, reading_rounds}
 use Rattle.rule.specs.Decoding.{Values, values, answer_of, buffer_checks, decode_profile_call, limited, profile_checks, refusal_of}
 use Rattle.rule.proofs.DecodingLaws.{after_cases}
 use Rattle.rule.proofs.ProfileLaws.{number_passed, profile_leaves, profile_limited}

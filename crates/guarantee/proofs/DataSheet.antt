@@ -3,13 +3,7 @@
 use Rattle.std.specs.Prelude.{ℕ, suc, ◌-◌, ◌^◌, ◌≡◌, refl, Bool, true, false, [], ◌∷◌, leb}
 use Rattle.guarantee.specs.Guarantee.{enough, surely}
 use Rattle.words.specs.Sum.{tabulate, total}
-
--- m, r, the distance, the places surely mended, the product, and whether it is at most 1,000,000
-pub data Line : Type 0 where
-  line : ℕ → ℕ → ℕ → ℕ → ℕ → Bool → Line
-
-abbrev pub line_of : ℕ → ℕ → Line
-line_of m r = line m r (2 ^ (m - r)) (surely m r) (enough m r) (leb (enough m r) 1000000)
+use Rattle.guarantee.specs.DataSheet.{Line, line_of, line}
 
 -- the codes of the exponents 1 to 10, each with the orders 0 to m
 pub data_sheet : tabulate 10 (λ i. tabulate (suc (suc i)) (λ r. line_of (suc i) r)) ≡

@@ -16,7 +16,8 @@ use Rattle.direction.proofs.Insert.{Top, highest_top}
 use Rattle.direction.proofs.Projected.{project_codeword, word_project}
 use Rattle.guarantee.specs.Guarantee.{Mends, enough}
 use Rattle.guarantee.specs.PlaceSums.{distance-project, sum_first, sum_from, sum_turned}
-use Rattle.rule.proofs.Nearest.{Nearest, nearest_accepted, order0_judged, order1_judged}
+use Rattle.rule.specs.Nearest.{Nearest}
+use Rattle.rule.proofs.Nearest.{nearest_accepted, order0_judged, order1_judged}
 use Rattle.rule.specs.Reading.{Outcome, abstained, abstains, accepted, flipped, flips, leaves_of, reading, round_leaves, rounds, vote, votes}
 use Rattle.rule.proofs.Rounds.{flips_word, rounds_step, still}
 use Rattle.words.specs.Sum.{sum_below, total}

@@ -1,3 +1,4 @@
--- Definitions: Guarantee. The rest are laws, in proofs/ too; DataSheet there is the table of every code.
+-- Definitions: Guarantee, DataSheet. The rest are laws, in proofs/ too; DataSheet there is the table of every code.
 pub mod Guarantee
 pub mod PlaceSums
+pub mod DataSheet

@@ -14,7 +14,8 @@ use Rattle.code.proofs.MessageLaws.{codeword_message, message_bits, message_leng
 use Rattle.profiles.specs.declared.Profile.{Profile}
 use Rattle.rule.specs.Reading.{Outcome, accepted, refused}
 use Rattle.rule.specs.Decoding.{refusal_of}
-use Rattle.rule.proofs.Demand3.{Agree, Sound, decode_sound, demand_3}
+use Rattle.rule.specs.Demand3.{Agree, Sound}
+use Rattle.rule.proofs.Demand3.{decode_sound, demand_3}
 use Rattle.alike.specs.Alike.{Differ}
 use Rattle.text.specs.Numbers.{hex_digit, hex_of, nibble, ten_digits}
 use Rattle.text.specs.Texts.{Bits}

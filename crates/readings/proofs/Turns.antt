@@ -20,7 +20,8 @@ use Rattle.cosets.specs.Votes.{Tally}
 use Rattle.hadamard.specs.Correlation.{values}
 use Rattle.rule.specs.Reading.{Outcome, accepted, refused, leaves_of, order0, order1, abstained, flips, reading, round_leaves, rounds}
 use Rattle.rule.proofs.Rounds.{rounds_none, rounds_step, still}
-use Rattle.rule.proofs.Counts.{Leaf, reading_leaf, round_least}
+use Rattle.rule.specs.Counts.{Leaf}
+use Rattle.rule.proofs.Counts.{reading_leaf, round_least}
 use Rattle.rule.specs.Decoding.{limited}
 use Rattle.rule.proofs.DecodingLaws.{limited_within}
 use Rattle.told.specs.Told.{numbers_in, Read}

@@ -2,7 +2,8 @@
 use Rattle.std.specs.Prelude.{ℕ, List}
 use Rattle.std.proofs.Common.{arith}
 use Rattle.rule.specs.Reading.{Outcome, accepted, refused, reading}
-use Rattle.rule.proofs.Counts.{ByNoise, reading_noise}
+use Rattle.rule.specs.Counts.{ByNoise}
+use Rattle.rule.proofs.Counts.{reading_noise}
 use Rattle.steps.specs.Answers.{Unlimited}
 
 -- no leaf limit is in a reading's own outcome

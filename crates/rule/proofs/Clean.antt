@@ -10,7 +10,7 @@ use Rattle.code.specs.Code.{IsCodeword}
 use Rattle.code.proofs.Codewords.{test_of_codeword}
 use Rattle.direction.specs.Direction.{project}
 use Rattle.direction.proofs.Projected.{project_codeword}
-use Rattle.rule.proofs.Counts.{most_leaves}
+use Rattle.rule.specs.Counts.{most_leaves, clean_rounds}
 use Rattle.rule.proofs.Nearest.{itself, nearest_accepted, order0_judged, order1_codeword}
 use Rattle.rule.specs.Reading.{Outcome, abstained, abstains, accepted, flipped, flips, leaves_of, reading, round_leaves, rounds, vote, votes}
 use Rattle.rule.proofs.Rounds.{rounds_step, still}
@@ -44,12 +44,6 @@ module _ (m r k each : ℕ) (hm : m < 32) (lower : List ℕ → Outcome) (same :
 
   rounds_clean : (left : ℕ) → rounds m lower (suc r) (suc left) 0 0 c ≡ accepted c 1 ((2 ^ suc m - 1) * each)
   rounds_clean left = rounds_step m lower (suc r) left 0 0 c ∙ rw (settles, test_of_codeword (suc m) (suc r) c hc) (ap (accepted c 1) (omega (arith, leaves_all)))
-
--- the rounds of a codeword's reading at order r
-abbrev pub clean_rounds : ℕ → ℕ
-clean_rounds zero = 0
-clean_rounds (suc zero) = 0
-clean_rounds (suc (suc r)) = 1
 
 -- its leaf count is that of one round at every depth
 pub reading_clean : (r m limit : ℕ) → 1 ≤ m → r ≤ m → m ≤ 32 → 1 ≤ limit → (c : List ℕ) → IsCodeword m r c

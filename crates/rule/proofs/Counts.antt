@@ -9,18 +9,9 @@ use Rattle.hadamard.specs.Correlation.{correlation, count_below, values}
 use Rattle.words.specs.Sum.{greatest_below, sum_below_ℤ}
 use Rattle.words.specs.SumLaws.{sum_most}
 use Rattle.words.specs.Word.{add_words}
+use Rattle.rule.specs.Counts.{most_leaves, Leaf, Rounds, ByNoise}
 
 -- ---- numbers and rounds
-
--- orders 0 and 1: no round, the order is the leaf count, and a refusal is 9
-abbrev pub Leaf : ℕ → Outcome → Type 0
-Leaf r (accepted d k l) = (k ≡ 0) × (l ≡ r)
-Leaf r (refused e k l) = (e ≡ 9) × ((k ≡ 0) × (l ≡ r))
-
--- order 2 and above: more than j rounds and at most i; a refusal is 10, after i rounds, or 11
-abbrev pub Rounds : ℕ → ℕ → Outcome → Type 0
-Rounds j i (accepted d k l) = (j < k) × (k ≤ i)
-Rounds j i (refused e k l) = ((e ≡ 10) × (k ≡ i)) ⊎ ((e ≡ 11) × ((j < k) × (k ≤ i)))
 
 pub order0_leaf : (m : ℕ) (v : ℕ → ℤ) → Leaf 0 (order0 m v)
 unfolding order0
@@ -70,11 +61,6 @@ reading_rounds (suc zero) m limit w h = absurd (omega arith)
 reading_rounds (suc (suc r)) m limit w h =
     rw zero-add at (rounds_count (pred m) (reading (suc r) (pred m) limit) (suc (suc r)) limit 0 0 w)
 
--- a refusal is 9, 10 or 11
-abbrev pub ByNoise : Outcome → Type 0
-ByNoise (accepted d k l) = Unit {0}
-ByNoise (refused e k l) = (9 ≤ e) × (e ≤ 11)
-
 leaf_noise : (r : ℕ) (o : Outcome) → Leaf r o → ByNoise o
 leaf_noise r (accepted d k l) h = tt
 leaf_noise r (refused e k l) h = (omega arith, omega arith)
@@ -104,12 +90,6 @@ module _ (m : ℕ) (lower : List ℕ → Outcome) (r : ℕ) where
       (λ e. le_refl _) (le_refl _) (rounds_least left (suc k) (l + round_leaves m lower w) _)
 
 -- ---- the greatest leaf count
-
--- a round reads each of the n - 1 directions once
-unfoldable pub most_leaves : ℕ → ℕ → ℕ → ℕ
-most_leaves zero m limit = 0
-most_leaves (suc zero) m limit = 1
-most_leaves (suc (suc r)) m limit = limit * ((2 ^ suc (pred m) - 1) * most_leaves (suc r) (pred m) limit)
 
 module _ (m : ℕ) (lower : List ℕ → Outcome) (r b : ℕ) (bound : (v : List ℕ) → leaves_of (lower v) ≤ b) where
   round_most : (w : List ℕ) → round_leaves m lower w ≤ (2 ^ suc m - 1) * b

@@ -6,8 +6,7 @@ use Rattle.code.proofs.Codewords.{codeword_of_test, test_add}
 use Rattle.rule.proofs.Order0.{order0_add, order0_in}
 use Rattle.rule.proofs.Order1.{order1_add, order1_in}
 use Rattle.direction.proofs.Projected.{project_add, project_codeword, word_project}
-use Rattle.rule.specs.Shift.{shift}
-use Rattle.rule.proofs.Outcomes.{CodewordIn}
+use Rattle.rule.specs.Outcomes.{shift, CodewordIn}
 use Rattle.rule.specs.Reading.{Outcome, accepted, flips, reading, refused, round_leaves, rounds}
 use Rattle.rule.proofs.Rounds.{SameBallot, flips_same, flips_word, leaves_same, round_cases, rounds_none, rounds_step, settled, still}
 use Rattle.direction.specs.Direction.{coset_of, project}

@@ -7,8 +7,7 @@ use Rattle.std.proofs.Common.{arith}
 use Rattle.std.proofs.Math.Dec.{eqb}
 use borrow.Author.Tests.{eq-eqb, eqb-false, eqb-true, le-leb, le-ltb, lt-ltb, ltb-false, ltb-true}
 use Rattle.rule.specs.Decoding.{answer_of, number_in, refusal_of, after, buffer_checks, decode_call, decode_of, decode_profile_call, decode_profile_of, limit_checks, limited, profile_checks}
-use Rattle.rule.specs.Shift.{shift}
-use Rattle.rule.proofs.Outcomes.{leaves_shift}
+use Rattle.rule.specs.Outcomes.{shift, leaves_shift}
 use Rattle.rule.specs.Reading.{Outcome, accepted, leaves_of, refused}
 use Rattle.profiles.specs.Profiles.{profile_of}
 use Rattle.refusals.proofs.CheckLaws.{bits_tested, bits_pass, passed, passes, rest_passes}

@@ -2,14 +2,13 @@
 use Rattle.std.specs.Prelude.{ℕ, ◌<◌, ◌≡◌, List, [], ◌++◌}
 use Rattle.std.proofs.Common.{sym, ap, subst, ◌∙◌, arith}
 use Rattle.code.specs.Code.{IsCodeword}
-use Rattle.rule.specs.Decoding.{answer_of, refusal_of, output_of, values}
-use Rattle.rule.proofs.Counts.{ByNoise, reading_noise}
+use Rattle.rule.specs.Decoding.{answer_of, refusal_of, output_of, values, after, buffer_checks, decode_call, decode_of, decode_profile_call, decode_profile_of, limit_checks, limited, profile_checks}
+use Rattle.rule.specs.Counts.{ByNoise}
+use Rattle.rule.proofs.Counts.{reading_noise}
 use Rattle.rule.proofs.Covariance.{reading_add, reading_in}
-use Rattle.rule.specs.Decoding.{after, buffer_checks, decode_call, decode_of, decode_profile_call, decode_profile_of, limit_checks, limited, profile_checks}
 use Rattle.rule.specs.RightSizes.{RightSizes}
 use Rattle.rule.proofs.DecodingLaws.{after_cases, after-shift, buffers_passed, call_is, limited_cases, limited-shift, profile_call_is}
-use Rattle.rule.specs.Shift.{shift}
-use Rattle.rule.proofs.Outcomes.{CodewordIn}
+use Rattle.rule.specs.Outcomes.{shift, CodewordIn}
 use Rattle.rule.proofs.ProfileLaws.{number_passed, profile_code}
 use Rattle.rule.specs.Reading.{Outcome, accepted, reading, refused}
 use Rattle.profiles.specs.Profiles.{profile_of}
@@ -19,17 +18,7 @@ use Rattle.refusals.specs.Refusals.{Check, code_checks, first_refusal}
 use Rattle.words.specs.Word.{IsWord, add_words}
 use Rattle.words.proofs.WordLaws.{add_cancel, word_add, distance_add}
 use Rattle.profiles.specs.declared.Profile.{Profile}
-
--- an accepted word is a codeword, and no refusal has the number 0
-abbrev pub Sound : ℕ → ℕ → Outcome → Type 0
-Sound m r (accepted d k l) = IsCodeword m r d
-Sound m r (refused e k l) = 0 < e
-
--- the answers x and y to the words w and w' of exponent m, which differ in nothing but c: "whether each call is accepted, the refusal's
--- number, the rounds and the leaf count as returned, and on acceptance all n output bytes"; document 02, request 3: the places mended too
-pub record Agree (m : ℕ) (w w' c : List ℕ) (x y : Outcome) : Type 0 where
-  pub answer : answer_of m w' y ≡ answer_of m w x
-  pub output : refusal_of x ≡ 0 → (out out' : List ℕ) → output_of y out' ≡ add_words (output_of x out) c
+use Rattle.rule.specs.Demand3.{Sound, Agree}
 
 -- by the word's own sum with c
 pub agree : (m r : ℕ) (w c : List ℕ) (x y : Outcome) → IsWord m w → IsWord m c → Sound m r x → y ≡ shift c x → Agree m w (add_words w c) c x y

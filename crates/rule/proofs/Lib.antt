@@ -1,5 +1,4 @@
 pub mod DecodingLaws
-pub mod Outcomes
 pub mod Clean
 pub mod Counts
 pub mod Covariance

@@ -5,7 +5,8 @@ use Rattle.words.specs.Word.{IsWord, distance}
 use Rattle.code.specs.Code.{IsCodeword}
 use Rattle.code.proofs.Distance.{distance_self, same_or_apart}
 use Rattle.rule.specs.Reading.{Outcome, accepted, reading}
-use Rattle.rule.proofs.Nearest.{Judged, Nearest, nearest, tied, order0_judged, order1_judged}
+use Rattle.rule.specs.Nearest.{Judged, Nearest, nearest, tied}
+use Rattle.rule.proofs.Nearest.{order0_judged, order1_judged}
 
 module _ {m r : ℕ} {w d : List ℕ} (order : r ≤ m) (h : Nearest m r w d) (c : List ℕ) (hc : IsCodeword m r c) where
   nearest_least : distance m w d ≤ distance m w c

@@ -14,26 +14,7 @@ use Rattle.hadamard.specs.Peak.{Alone, Shared, peak}
 use Rattle.rule.specs.Reading.{Outcome, accepted, refused, by_sum, constant, order0, order1}
 use Rattle.rule.proofs.Order0.{order0-correlation}
 use Rattle.rule.proofs.Order1.{alone_pos, candidate, order1_alone, order1_shared, sizes}
-
--- d is a codeword, nearer to w than every other
-pub record Nearest (m r : ℕ) (w d : List ℕ) : Type 0 where
-  pub codeword : IsCodeword m r d
-  pub nearer : (c : List ℕ) → IsCodeword m r c → c ≢ d → distance m w d < distance m w c
-
--- two codewords are equally near to w, and none is nearer
-pub record Tied (m r : ℕ) (w : List ℕ) : Type 0 where
-  pub first : List ℕ
-  pub second : List ℕ
-  pub first_codeword : IsCodeword m r first
-  pub second_codeword : IsCodeword m r second
-  pub apart : first ≢ second
-  pub equal : distance m w first ≡ distance m w second
-  pub least : (c : List ℕ) → IsCodeword m r c → distance m w first ≤ distance m w c
-
--- the outcome is the nearest codeword, or refusal 9 at a tie
-pub data Judged (m r : ℕ) (w : List ℕ) : Outcome → Type 0 where
-  nearest : {d : List ℕ} → Nearest m r w d → Judged m r w (accepted d 0 r)
-  tied : Tied m r w → Judged m r w (refused 9 0 r)
+use Rattle.rule.specs.Nearest.{Nearest, Tied, Judged, nearest, tied}
 
 -- ---- orders 0 and 1 alike
 

@@ -9,8 +9,7 @@ use Rattle.hadamard.specs.Correlation.{correlation, signed, values}
 use Rattle.hadamard.specs.AffineWords.{affine-add, affine_parity, bit-affine, codeword_constant, constant_affine, constant_codeword}
 use Rattle.hadamard.specs.CorrelationLaws.{correlation_affine, correlation_ext, correlation-zero, values_add}
 use Rattle.rule.specs.Reading.{accepted, by_sum, constant, order0}
-use Rattle.rule.specs.Shift.{shift}
-use Rattle.rule.proofs.Outcomes.{CodewordIn}
+use Rattle.rule.specs.Outcomes.{shift, CodewordIn}
 
 -- the sum of the values is the correlation of mask 0
 pub order0-correlation : (m : ℕ) (v : ℕ → ℤ) → order0 m v ≡ by_sum m (correlation m v 0)

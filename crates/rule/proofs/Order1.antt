@@ -13,8 +13,7 @@ use Rattle.hadamard.specs.AffineWords.{affine-add, affine_codeword, affine_parit
 use Rattle.hadamard.specs.CorrelationLaws.{constant_of-signed, correlation_affine, correlation_ext, nat_abs-signed, values_add}
 use Rattle.hadamard.specs.Peak.{Alone, Shared, alone_count, alone_first, alone_moved, peak, shared_count, shared_moved}
 use Rattle.rule.specs.Reading.{accepted, refused, order1}
-use Rattle.rule.specs.Shift.{shift}
-use Rattle.rule.proofs.Outcomes.{CodewordIn}
+use Rattle.rule.specs.Outcomes.{shift, CodewordIn}
 
 -- the sizes of the correlations
 abbrev pub sizes : ℕ → (ℕ → ℤ) → ℕ → ℕ

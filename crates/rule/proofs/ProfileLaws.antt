@@ -4,10 +4,11 @@ use Rattle.std.proofs.Math.Bool.{true}
 use mathlib.Core.List.{List, [], ◌∷◌, ◌++◌, map}
 use Rattle.std.proofs.Common.{arith, leb-true}
 use Rattle.code.specs.Code.{dimension}
-use Rattle.code.proofs.Dimension.{choose, dimension-choose}
-use Rattle.rule.specs.Decoding.{refusal_of}
-use Rattle.rule.proofs.Counts.{ByNoise, most_leaves, reading_most, reading_noise}
-use Rattle.rule.specs.Decoding.{buffer_checks, decode_profile_call, decode_profile_of, limit_checks, limited, profile_checks}
+use Rattle.code.specs.Dimension.{choose}
+use Rattle.code.proofs.Dimension.{dimension-choose}
+use Rattle.rule.specs.Decoding.{refusal_of, buffer_checks, decode_profile_call, decode_profile_of, limit_checks, limited, profile_checks}
+use Rattle.rule.specs.Counts.{ByNoise, most_leaves, Not12}
+use Rattle.rule.proofs.Counts.{reading_most, reading_noise}
 use Rattle.rule.proofs.DecodingLaws.{after_cases, limited_within}
 use Rattle.rule.specs.Reading.{Outcome, accepted, leaves_of, reading, refused}
 use Rattle.profiles.specs.Profiles.{profile_of, profiles}
@@ -40,10 +41,6 @@ profile_passes = each (λ (p : Profile). first_refusal (code_checks p.m p.r ++ l
 pub profile_most : (number : ℕ) → number ≤ 4 → most_leaves (profile_of number).r (profile_of number).m (profile_of number).rounds ≡ (profile_of number).leaves
 unfolding most_leaves
 profile_most = each (λ (p : Profile). most_leaves p.r p.m p.rounds ≡ p.leaves) refl refl refl refl refl
-
--- an answer whose number is not 12
-abbrev pub Not12 : Outcome → Type 0
-Not12 o = refusal_of o ≡ 12 → ⊥
 
 noise_not_12 : (o : Outcome) → ByNoise o → Not12 o
 noise_not_12 (accepted d i j) h e = omega arith

@@ -11,13 +11,7 @@ use Rattle.hadamard.specs.Correlation.{affine, correlation, count_below}
 use Rattle.words.specs.Sum.{first_where, tabulate, total}
 use Rattle.words.specs.SumLaws.{get_or-tabulate}
 use Rattle.words.specs.Word.{add_words}
-
--- the words of n places, all zeros or only place 0 wrong
-abbrev pub zeros : ℕ → List ℕ
-zeros n = replicate n 0
-
-abbrev pub wrong : ℕ → List ℕ
-wrong n = 1 ∷ zeros (pred n)
+use Rattle.rule.specs.WorkedTable.{zeros, wrong}
 
 pub same_at : {A : Type 0} (n : ℕ) (f g : ℕ → A) (d : A) → tabulate n f ≡ tabulate n g → (i : ℕ) → i < n → f i ≡ g i
 same_at n f g d e i l = sym (get_or-tabulate n f d i l) ∙ ap (λ xs. get_or xs i d) e ∙ get_or-tabulate n g d i l

@@ -12,7 +12,8 @@ use Rattle.code.specs.Code.{codeword_test, coefficient, low_test}
 use Rattle.rule.proofs.Order1.{order1_alone, order1_shared, sizes}
 use Rattle.rule.specs.Reading.{Outcome, abstained, abstains, accepted, flipped, flips, leaves_of, order1, reading, refused, round_leaves, rounds, vote, votes}
 use Rattle.rule.proofs.Rounds.{rounds_step, settled}
-use Rattle.rule.proofs.WorkedRounds.{Projects, one_round, same_at, zeros}
+use Rattle.rule.specs.WorkedTable.{zeros, four_wrong, nine_wrong}
+use Rattle.rule.proofs.WorkedRounds.{Projects, one_round, same_at}
 use Rattle.direction.specs.Direction.{coset_of, delete_bit, highest, insert_zero, project, representative}
 use Rattle.hadamard.specs.Correlation.{affine, constant_of, correlation, count_below, first_below, signed, values}
 use Rattle.hadamard.specs.Peak.{Alone, Shared, alone_count, alone_first, alone_moved, peak, shared_count, shared_moved}
@@ -108,9 +109,6 @@ module _ {m : ℕ} {w : List ℕ} {o : ℕ → Outcome} {flipping : List ℕ} (g
 
 -- ---- exponent 5: places 0, 1, 2 and 4 wrong
 
-abbrev pub four_wrong : List ℕ
-four_wrong = 1 ∷ 1 ∷ 1 ∷ 0 ∷ 1 ∷ zeros 27
-
 -- directions 1 to 6, each between two of the four places, give zeros; all others tie. Each of the four has 3 of the 6 votes: equality.
 equal : Given 4 four_wrong (λ i. cond (ltb i 6) (accepted (zeros 16) 0 1) (refused 9 0 1)) (zeros 32)
 unfolding transformed sums halved butterflies project tabulate insert_zero highest count_leading_zeros count_below first_where affine total ones ones_in flipped coset_of representative delete_bit
@@ -121,10 +119,6 @@ unfolding reading codeword_test low_test coefficient total tabulate ones ones_in
 left_alone left = round_given equal (suc left) left 0 0
 
 -- ---- exponent 6: nine places wrong, each with more than half of the votes cast, but not of all directions
-
--- ones exactly at 2, 10, 11, 16, 17, 39, 43, 45 and 54
-abbrev pub nine_wrong : List ℕ
-nine_wrong = tabulate 64 (λ p. 0010000000110000110000000000000000000001000101000000001000000000 / 10 ^ (63 - p) % 10)
 
 -- 27 directions, the ones of this number, tie; all others give zeros, and each of the nine places has more than half of their 36 votes
 more : Given 5 nine_wrong (λ i. cond (eqb (13848372110637000844 / 2 ^ suc i % 2) 1) (refused 9 0 1) (accepted (zeros 32) 0 1)) nine_wrong

@@ -16,7 +16,8 @@ use Rattle.rule.specs.Reading.{Outcome, accepted, refused}
 use Rattle.rule.specs.Calls.{Decodes, values_of}
 use Rattle.rule.specs.Decoding.{answer_of, decode_call, decode_of, number_in, output_of}
 use Rattle.rule.proofs.DecodingLaws.{call_is}
-use Rattle.rule.proofs.Demand3.{Sound, decode_sound}
+use Rattle.rule.specs.Demand3.{Sound}
+use Rattle.rule.proofs.Demand3.{decode_sound}
 use Rattle.table_decoder.specs.TableLaws.{entry_area}
 use Rattle.generator.specs.declared.Places.{Places}
 use Rattle.load.specs.LoadLaws.{block_word, sent_codeword}

@@ -16,12 +16,14 @@ use Rattle.tables.specs.Tables.{entry_of, known, none, ours, slot_of, some}
 use Rattle.tables.specs.Limits.{InLimits, is_known, ours-known, ours_entry}
 use Rattle.tables.specs.Slots.{slot_known}
 use Rattle.rule.specs.Reading.{Outcome, accepted, reading, refused}
-use Rattle.rule.proofs.Counts.{ByNoise, reading_noise}
+use Rattle.rule.specs.Counts.{ByNoise}
+use Rattle.rule.proofs.Counts.{reading_noise}
 use Rattle.rule.specs.Decoding.{after, area_of, buffer_checks, decode_call, decode_of, decode_profile_call, limit_checks, zeros}
 use Rattle.rule.specs.RightSizes.{RightSizes}
 use Rattle.rule.proofs.DecodingLaws.{after_same, limited_cases}
 use Rattle.rule.specs.Calls.{Decodes}
-use Rattle.rule.proofs.Demand3.{Agree, demand_3_call}
+use Rattle.rule.specs.Demand3.{Agree}
+use Rattle.rule.proofs.Demand3.{demand_3_call}
 use Rattle.table_decoder.specs.Table.{table_checks, decode_table_call}
 
 -- the code and the limits of an entry pass the checks

@@ -20,7 +20,7 @@ use Rattle.hadamard.specs.CorrelationLaws.{constant_of-lt}
 use Rattle.rule.specs.Reading.{accepted, order1}
 use Rattle.confidences.specs.Confidences.{signs_of}
 use Rattle.confidences.proofs.Clean.{clean_values}
-use Rattle.confidences.proofs.Counts.{full_leaves}
+use Rattle.confidences.specs.Counts.{full_leaves}
 use Rattle.confidences.specs.Blocks.{Nonzero}
 use Rattle.confidences.proofs.Rounds.{bit_signs, reading_one, signs_word}
 use Rattle.confidences.specs.Values.{Values}

@@ -10,7 +10,8 @@ use lib.ListN.{length}
 use lib.IntN.{ℤ, pos}
 use lib.Seq.{get_or-take}
 use Rattle.area.specs.Area.{at}
-use Rattle.rule.proofs.Counts.{Leaf, leaf_leaves}
+use Rattle.rule.specs.Counts.{Leaf}
+use Rattle.rule.proofs.Counts.{leaf_leaves}
 use Rattle.rule.specs.Decoding.{limited}
 use Rattle.rule.proofs.DecodingLaws.{limited_above, limited_within}
 use Rattle.rule.specs.Reading.{Outcome, accepted, leaves_of, order0, order1, refused}

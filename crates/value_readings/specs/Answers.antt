@@ -4,7 +4,8 @@ use Rattle.std.proofs.Common.{arith}
 use Rattle.rule.specs.Reading.{Outcome, accepted, refused}
 use Rattle.steps.specs.Answers.{Unlimited}
 use Rattle.confidences.specs.Confidences.{reading}
-use Rattle.confidences.proofs.Counts.{ByNoise, noise_by, reading_noise}
+use Rattle.confidences.specs.Counts.{ByNoise}
+use Rattle.confidences.proofs.Counts.{noise_by, reading_noise}
 
 -- no leaf limit is in a reading's own outcome
 noise_unlimited : (o : Outcome) → ByNoise o → Unlimited o

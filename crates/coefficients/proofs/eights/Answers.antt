@@ -1,12 +1,8 @@
 -- `coefficients::eights` meets its contract: a turn does one block. Assumes nothing.
-use Prim.Native.Nat.{◌-◌}
 use native.Mathlib.Omega.{arith}
-use lib.ListN.{length}
-use Rattle.words.specs.Butterflies.{halved, BlocksDone}
 use Rattle.words.specs.Blocks.{blocks_none, block_fits, block_lent, block_back, blocks_all}
 use Rattle.words.specs.Levels.{halved_keeps}
 use Rattle.coefficients.specs.TransformLaws.{parities}
-use borrow.Author.Rules.{rules}
 use Rattle.coefficients.proofs.eights.Goals as goal
 
 pub loop-b-init : goal.loop-b-init

@@ -2,7 +2,6 @@
 use mathlib.Core.Path.{refl}
 use Rattle.words.specs.Levels.{first_lent, second_lent, halves_ready, halves_joined}
 use Rattle.coefficients.specs.TransformLaws.{parities}
-use borrow.Author.Rules.{rules}
 use Rattle.coefficients.proofs.four.Goals as goal
 
 pub two-requires : goal.two-requires

@@ -1,12 +1,9 @@
 -- `coefficients::transform` meets its contract: each level transforms blocks of twice the size. Assumes nothing.
 use Prim.Native.Nat.{ℕ, ◌-◌, ◌^◌}
-use mathlib.Core.Path.{◌∙◌}
 use mathlib.Core.List.{List}
-use native.Mathlib.Omega.{arith}
 use Rattle.words.specs.Butterflies.{Entries}
-use Rattle.words.specs.ButterflyLaws.{halved-zero, halved_at}
-use Rattle.words.specs.Levels.{Transformed, whole_blocks, transformed_blocks, transformed_length, transformed_all, next_level, level_done}
-use Rattle.coefficients.specs.TransformLaws.{parities, word_entries, halved-coefficient}
+use Rattle.words.specs.Levels.{Transformed}
+use Rattle.coefficients.specs.TransformLaws.{parities}
 use Rattle.coefficients.proofs.transform.Given as goal
 
 abbrev pub invariant-loop-h : goal.invariant-loop-h

@@ -2,7 +2,6 @@
 use mathlib.Core.Path.{◌∙◌}
 use Rattle.words.specs.ButterflyLaws.{halved_one}
 use Rattle.coefficients.specs.TransformLaws.{parities}
-use borrow.Author.Rules.{rules}
 use Rattle.coefficients.proofs.two.Goals as goal
 
 pub returns : goal.returns

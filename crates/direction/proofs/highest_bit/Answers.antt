@@ -2,7 +2,6 @@
 use mathlib.Core.Path.{refl}
 use native.Mathlib.Omega.{arith}
 use lib.Count.{leading_top}
-use borrow.Author.Rules.{rules}
 use Rattle.direction.specs.Direction.{highest}
 use Rattle.direction.proofs.Insert.{highest_top, top_le}
 use Rattle.direction.proofs.highest_bit.Goals as goal

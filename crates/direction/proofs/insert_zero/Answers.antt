@@ -5,7 +5,6 @@ use native.Mathlib.Nat.{div-add-mod'}
 use native.Mathlib.Omega.{arith}
 use lib.Bits.{bit_and, and_mask}
 use lib.Pow.{pow_pos}
-use borrow.Author.Rules.{rules}
 use Rattle.direction.proofs.Insert.{insert_sum}
 use Rattle.direction.proofs.insert_zero.Goals as goal
 

@@ -1,9 +1,8 @@
 -- `hadamard::butterfly` meets its contract: a turn does one pair. Assumes nothing.
-use Prim.Native.Nat.{◌+◌, ◌-◌, ◌≤◌}
+use Prim.Native.Nat.{◌+◌}
 use native.Mathlib.Omega.{arith}
 use lib.ListN.{length-set}
-use borrow.Author.Rules.{rules}
-use Rattle.words.specs.ButterflyLaws.{PairsDone, pairs_none, pairs_all}
+use Rattle.words.specs.ButterflyLaws.{pairs_none, pairs_all}
 use Rattle.area.specs.Area.{at}
 use Rattle.area.specs.Numbers.{Half, sum_fits, difference_fits}
 use Rattle.hadamard.specs.Transform.{sums, pair_first, pair_second, pair_summed}

@@ -2,7 +2,6 @@
 use mathlib.Core.Path.{◌∙◌}
 use Rattle.words.specs.ButterflyLaws.{halved_one}
 use Rattle.hadamard.specs.Transform.{sums}
-use borrow.Author.Rules.{rules}
 use Rattle.hadamard.proofs.two.Goals as goal
 
 pub returns : goal.returns

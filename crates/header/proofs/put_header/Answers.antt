@@ -1,7 +1,6 @@
 -- `header::put_header` meets its contract. Assumes nothing.
 use native.Mathlib.Omega.{arith}
 use lib.ListN.{length-set}
-use borrow.Author.Rules.{rules}
 use Rattle.header.specs.HeaderLaws.{five_stored}
 use Rattle.header.proofs.put_header.Goals as goal
 

@@ -5,7 +5,8 @@ use native.Mathlib.Nat.{mul-le-mul}
 use native.Mathlib.Numerals.{add-one}
 use native.Mathlib.Omega.{arith}
 use Rattle.words.specs.Sum.{sum_below, total}
-use Rattle.code.proofs.Dimension.{choose, choose_next, choose_small, dimension-choose}
+use Rattle.code.specs.Dimension.{choose}
+use Rattle.code.proofs.Dimension.{choose_next, choose_small, dimension-choose}
 use Rattle.messages.proofs.dimension.Goals as goal
 
 pub loop-i-init : goal.loop-i-init

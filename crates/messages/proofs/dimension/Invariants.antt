@@ -2,7 +2,7 @@
 use Prim.Native.Nat.{◌+◌, ◌*◌, ◌-◌, ◌≤◌}
 use mathlib.Core.Path.{◌≡◌}
 use Rattle.words.specs.Sum.{sum_below}
-use Rattle.code.proofs.Dimension.{choose}
+use Rattle.code.specs.Dimension.{choose}
 use Rattle.messages.proofs.dimension.Given as goal
 
 abbrev pub invariant-loop-i : goal.invariant-loop-i

@@ -1,9 +1,7 @@
 -- `parities::butterfly` meets its contract: a turn does one pair. Assumes nothing.
 use Prim.Native.Nat.{◌-◌, ◌≤◌}
-use native.Mathlib.Omega.{arith}
-use borrow.Author.Rules.{rules}
-use Rattle.words.specs.ButterflyLaws.{PairsDone, pairs_none, pairs_all}
-use Rattle.parities.specs.Parities.{number_parities, numbers_added}
+use Rattle.words.specs.ButterflyLaws.{PairsDone}
+use Rattle.parities.specs.Parities.{number_parities}
 use Rattle.parities.proofs.butterfly.Given as goal
 
 abbrev pub invariant-loop-i : goal.invariant-loop-i

@@ -1,5 +1,4 @@
 -- `parities::four` meets its contract: all four numbers are read before the first is set. Assumes nothing.
-use borrow.Author.Rules.{rules}
 use Rattle.parities.specs.Fours.{four_added}
 use Rattle.parities.proofs.four.Goals as goal
 

@@ -1,12 +1,8 @@
 -- `parities::fours` meets its contract: a turn does one block. Assumes nothing.
-use Prim.Native.Nat.{◌-◌}
 use native.Mathlib.Omega.{arith}
-use lib.ListN.{length}
-use Rattle.words.specs.Butterflies.{halved, BlocksDone}
 use Rattle.words.specs.Blocks.{blocks_none, block_fits, block_lent, block_back, blocks_all}
 use Rattle.words.specs.Levels.{halved_keeps}
 use Rattle.parities.specs.Parities.{number_parities}
-use borrow.Author.Rules.{rules}
 use Rattle.parities.proofs.fours.Goals as goal
 
 pub loop-b-init : goal.loop-b-init

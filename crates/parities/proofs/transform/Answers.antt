@@ -1,9 +1,5 @@
 -- `parities::transform` meets its contract: each level transforms blocks of twice the size. Assumes nothing.
-use Prim.Native.Nat.{◌-◌, ◌^◌}
-use mathlib.Core.List.{List}
 use native.Mathlib.Omega.{arith}
-use lib.IntN.{ℤ}
-use Rattle.words.specs.Butterflies.{Entries}
 use Rattle.words.specs.ButterflyLaws.{halved-zero, halved_at}
 use Rattle.words.specs.Levels.{Transformed, whole_blocks, transformed_blocks, transformed_length, transformed_all, next_level, level_done}
 use Rattle.parities.specs.Parities.{number_parities}

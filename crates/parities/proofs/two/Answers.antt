@@ -2,7 +2,6 @@
 use mathlib.Core.Path.{◌∙◌}
 use Rattle.words.specs.ButterflyLaws.{halved_one}
 use Rattle.parities.specs.Parities.{number_parities}
-use borrow.Author.Rules.{rules}
 use Rattle.parities.proofs.two.Goals as goal
 
 pub returns : goal.returns

@@ -1,14 +1,10 @@
 -- `street_settings::all_digits` meets its contract: all is the test of the bytes passed. Assumes nothing.
-use Prim.Native.Nat.{ℕ, ◌-◌, ◌≤◌}
-use mathlib.Core.Path.{◌≡◌, refl, ap, ◌∙◌}
-use mathlib.Core.Bool.{Bool, ◌&&◌}
+use Prim.Native.Nat.{◌-◌, ◌≤◌}
+use mathlib.Core.Path.{◌≡◌}
 use lib.ListN.{length}
-use borrow.Author.Rules.{rules}
-use native.Mathlib.Omega.{arith}
 use Rattle.words.specs.Sum.{all_below}
-use Rattle.words.specs.SumLaws.{all_none, all_more}
 use Rattle.words.specs.Word.{bit}
-use Rattle.street_settings.specs.Settings.{all_digits, is_digit}
+use Rattle.street_settings.specs.Settings.{is_digit}
 use Rattle.street_settings.proofs.all_digits.Given as goal
 
 abbrev pub invariant-loop-p : goal.invariant-loop-p

@@ -3,8 +3,6 @@ use Prim.Native.Nat.{ℕ, ◌^◌, ◌<◌}
 use mathlib.Core.Path.{◌≡◌, sym, ap, ◌∙◌}
 use mathlib.Core.Bool.{true}
 use lib.ListN.{length}
-use borrow.Author.Tests.{not-true, not-false}
-use borrow.Author.Rules.{rules}
 use native.Mathlib.Omega.{arith}
 use Rattle.street_settings.specs.SettingLaws.{a_number, great_kept, small_kept, kept_small, no_digits, no_number, too_great}
 use Rattle.street_settings.specs.Settings.{all_digits, value_of}

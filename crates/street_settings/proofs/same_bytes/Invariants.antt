@@ -1,13 +1,9 @@
 -- `street_settings::same_bytes` meets its contract: same is the test of the bytes passed. Assumes nothing.
-use Prim.Native.Nat.{ℕ, ◌-◌, ◌≤◌}
-use mathlib.Core.Path.{◌≡◌, refl, ap, ◌∙◌}
+use Prim.Native.Nat.{◌-◌, ◌≤◌}
+use mathlib.Core.Path.{◌≡◌}
 use lib.Dec.{eqb}
 use lib.ListN.{length}
-use borrow.Author.Rules.{rules}
-use borrow.Author.Tests.{eq-eqb, ne_eqb}
-use native.Mathlib.Omega.{arith}
 use Rattle.words.specs.Sum.{all_below}
-use Rattle.words.specs.SumLaws.{all_none, all_more}
 use Rattle.words.specs.Word.{bit}
 use Rattle.street_settings.proofs.same_bytes.Given as goal
 

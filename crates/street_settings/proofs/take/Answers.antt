@@ -1,7 +1,6 @@
 -- `street_settings::take` meets its contract: each return is a case of the definition. Assumes nothing.
 use Prim.Native.Nat.{◌+◌}
 use mathlib.Core.Path.{◌≡◌, sym, ap, ◌∙◌}
-use borrow.Author.Rules.{rules}
 use native.Mathlib.Omega.{arith}
 use Rattle.street_settings.specs.SettingLaws.{asks_number, asks_summary, one_more, one_too_many}
 use Rattle.street_settings.specs.Settings.{asked, asked_by}

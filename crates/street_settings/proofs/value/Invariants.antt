@@ -1,12 +1,8 @@
 -- `street_settings::value` meets its contract: v is the number of the digits passed. Assumes nothing.
-use Prim.Native.Nat.{ℕ, ◌+◌, ◌-◌, ◌*◌, ◌^◌, ◌≤◌, ◌<◌}
-use mathlib.Core.Path.{◌≡◌, refl, sym, ap, ◌∙◌}
+use Prim.Native.Nat.{◌-◌, ◌^◌, ◌≤◌, ◌<◌}
+use mathlib.Core.Path.{◌≡◌}
 use lib.ListN.{length}
-use Rattle.words.specs.Word.{bit}
-use borrow.Author.Rules.{rules}
-use native.Mathlib.Omega.{arith}
 use Rattle.street_settings.specs.Settings.{value_of}
-use Rattle.street_settings.specs.SettingLaws.{kept_great, kept_small, digit, value_grows, value_more, value_none}
 use Rattle.street_settings.proofs.value.Given as goal
 
 abbrev pub invariant-loop-p : goal.invariant-loop-p

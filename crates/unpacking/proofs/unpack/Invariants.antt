@@ -1,14 +1,8 @@
 -- `unpacking::unpack` meets its contract: the loop writes eight places a turn from the front. Assumes nothing.
-use Prim.Native.Nat.{ℕ, ◌+◌, ◌-◌, ◌*◌, ◌/◌, ◌%◌, ◌^◌, ◌≤◌, ◌<◌}
-use mathlib.Core.Path.{◌≡◌, refl, ap, ap₂, ◌∙◌}
-use mathlib.Core.List.{List}
-use native.Mathlib.Omega.{arith}
-use lib.ListN.{length, get_or}
-use borrow.Author.Rules.{rules}
-use Rattle.words.specs.Sum.{tabulate}
-use Rattle.words.specs.SumLaws.{length-tabulate, get_or-tabulate}
-use Rattle.words.specs.Parts.{written_part}
-use Rattle.words.specs.Written.{Written, written_none, written_to, written_all}
+use Prim.Native.Nat.{◌-◌, ◌*◌, ◌/◌, ◌≤◌}
+use mathlib.Core.Path.{◌≡◌}
+use lib.ListN.{length}
+use Rattle.words.specs.Written.{Written}
 use Rattle.unpacking.specs.Packed.{packed_bit}
 use Rattle.unpacking.proofs.unpack.Given as goal
 

@@ -1,10 +1,7 @@
 -- `unpacking::unpack_byte` meets its contract: the loop writes the bits from the front. Assumes nothing.
-use Prim.Native.Nat.{◌-◌, ◌/◌, ◌%◌, ◌^◌, ◌≤◌}
-use mathlib.Core.Path.{◌≡◌, refl}
+use mathlib.Core.Path.{refl}
 use native.Mathlib.Omega.{arith}
-use lib.ListN.{length}
-use borrow.Author.Rules.{rules}
-use Rattle.words.specs.Written.{Written, written_none, written_more, written_to, written_all}
+use Rattle.words.specs.Written.{written_none, written_more, written_to, written_all}
 use Rattle.unpacking.proofs.unpack_byte.Goals as goal
 
 pub loop-i-init : goal.loop-i-init

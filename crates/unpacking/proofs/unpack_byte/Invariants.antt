@@ -1,10 +1,8 @@
 -- `unpacking::unpack_byte` meets its contract: the loop writes the bits from the front. Assumes nothing.
 use Prim.Native.Nat.{◌-◌, ◌/◌, ◌%◌, ◌^◌, ◌≤◌}
-use mathlib.Core.Path.{◌≡◌, refl}
-use native.Mathlib.Omega.{arith}
+use mathlib.Core.Path.{◌≡◌}
 use lib.ListN.{length}
-use borrow.Author.Rules.{rules}
-use Rattle.words.specs.Written.{Written, written_none, written_more, written_to, written_all}
+use Rattle.words.specs.Written.{Written}
 use Rattle.unpacking.proofs.unpack_byte.Given as goal
 
 abbrev pub invariant-loop-i : goal.invariant-loop-i

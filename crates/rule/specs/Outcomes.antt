@@ -3,7 +3,11 @@ use Rattle.std.specs.Prelude.{ℕ, ◌≡◌, refl, List}
 use Rattle.words.specs.Word.{add_words}
 use Rattle.code.specs.Code.{IsCodeword}
 use Rattle.rule.specs.Reading.{Outcome, accepted, refused, leaves_of}
-use Rattle.rule.specs.Shift.{shift}
+
+-- what is decoded, plus c
+abbrev pub shift : List ℕ → Outcome → Outcome
+shift c (accepted d k l) = accepted (add_words d c) k l
+shift c (refused e k l) = refused e k l
 
 -- what is decoded is a codeword
 abbrev pub CodewordIn : ℕ → ℕ → Outcome → Type 0
