@@ -16,7 +16,7 @@ valued (reads m r rounds leaves x v p d) =
     let o : Outcome = confidence_call m r rounds leaves x (2 ^ m) (8 * 2 ^ m) in
     reads m r rounds leaves x (answer_of m (signs_of m x) o) (value_place m r rounds x (refusal_of o)) (output_of o [])
 
-abbrev minus : ℕ → ℤ
+abbrev pub minus : ℕ → ℤ
 minus n = neg_ℤ (pos n)
 
 -- order 0: the sign of the sum, and a sum of 0
