@@ -22,7 +22,7 @@ use Rattle.arrays.specs.Arrays.{IsArray, array, array_buffers, array_call, array
 use Rattle.arrays.proofs.ArrayLaws.{array_of_test, array_read_add, column_of, columns_word, row_of, rows_word, test_of_array}
 use Rattle.arrays.specs.IsSide.{IsSide}
 use Rattle.arrays.proofs.Lines.{leaves_clean, leaves_most, left_clean}
-use Rattle.arrays.specs.ArraySizes.{IsLimits, Passed, RightArray, Sound}
+use Rattle.arrays.specs.ArraySizes.{Passed, RightArray, Sound}
 
 pub side_passed : (m r : ℕ) (cs : List Check) → first_refusal (side_checks m r ++ cs) ≡ 0 → IsSide m r × (first_refusal cs ≡ 0)
 side_passed m r cs e =

@@ -1,6 +1,6 @@
 -- The number, the rounds and the leaf count of a reading of confidences: the leaf count is the same for all values. Assumes nothing.
 use Prim.Native.Nat.{ℕ, zero, suc, pred, ◌-◌, ◌*◌, ◌^◌, ◌≤◌}
-use Rattle.std.specs.Prelude.{◌≡◌, refl, List, ◌⊎◌, ℤ}
+use Rattle.std.specs.Prelude.{◌≡◌, refl, List, ℤ}
 use Rattle.std.proofs.Common.{sym, ap, ap₂, ◌∙◌, inl, inr, ⊎_elim, mul-one, mul_assoc, mul_comm, mul_left_comm, one-mul, pow-suc, arith}
 use Rattle.std.proofs.Math.Numerals.{unary_clauses}
 use Rattle.area.specs.Area.{at}

@@ -30,7 +30,6 @@ use Rattle.confidences.specs.Answers.{confidence_call, lowest_outside, value_che
 use Rattle.confidences.specs.Confidences.{greatest, reading, signs_of}
 use Rattle.confidences.specs.InRange.{InRange}
 use Rattle.confidences.proofs.Range.{range_passes}
-use Rattle.confidences.specs.Blocks.{IsBlock}
 use Rattle.confidences.proofs.Rounds.{bit_signs, signs_word}
 use Rattle.confidences.proofs.Signs.{by_negative, by_positive}
 use Rattle.confidences.specs.OneMagnitude.{OneMagnitude}

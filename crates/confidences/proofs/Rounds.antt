@@ -2,7 +2,7 @@
 -- Assumes nothing.
 -- ---- values of exponent m
 use Prim.Native.Nat.{ℕ, zero, suc, ◌+◌, ◌-◌, ◌^◌, ◌≤◌, ◌<◌}
-use Rattle.std.specs.Prelude.{◌≡◌, Bool, cond, List, eqb, ℤ, pos, nat_abs, ◌+ℤ◌, length}
+use Rattle.std.specs.Prelude.{◌≡◌, Bool, cond, List, eqb, ℤ, pos, nat_abs, ◌+ℤ◌}
 use Rattle.std.proofs.Math.Path.{refl}
 use Rattle.std.proofs.Common.{sym, ap, ◌∙◌, sub-one, arith, ext_get_or, eq-eqb, le-ltb, lt-ltb, ltb-false, ltb-true, ne_eqb}
 use Rattle.std.proofs.Math.Bool.{true, false}
@@ -16,7 +16,7 @@ use Rattle.hadamard.specs.Correlation.{constant_of}
 use Rattle.hadamard.specs.CorrelationLaws.{constant_of-lt}
 use Rattle.rule.specs.Reading.{Outcome, abstains, accepted, leaves_of, order0, order1, refused}
 use Rattle.words.specs.Search.{First, where_first}
-use Rattle.words.specs.Sum.{sum_below, sum_below_ℤ, tabulate, total}
+use Rattle.words.specs.Sum.{tabulate, total}
 use Rattle.words.specs.SumLaws.{bit_tabulate, get_or-tabulate, length-tabulate, sum_prefix}
 use Rattle.words.specs.Word.{IsWord, bit}
 use Rattle.words.proofs.WordLaws.{word_tabulate}

@@ -1,9 +1,9 @@
 -- The data sheet: for every code its distance, the places surely mended, the leaf limit that is enough, and whether a leaf limit may be that
 -- great. Document 02, request 6: "This covers, on bits, every m and r whose product allows it." Assumes nothing.
-use Rattle.std.specs.Prelude.{ℕ, suc, ◌-◌, ◌^◌, ◌≡◌, refl, Bool, true, false, [], ◌∷◌, leb}
+use Rattle.std.specs.Prelude.{suc, ◌≡◌, refl, true, false, [], ◌∷◌}
 use Rattle.guarantee.specs.Guarantee.{enough, surely}
 use Rattle.words.specs.Sum.{tabulate, total}
-use Rattle.guarantee.specs.DataSheet.{Line, line_of, line}
+use Rattle.guarantee.specs.DataSheet.{line_of, line}
 
 -- the codes of the exponents 1 to 10, each with the orders 0 to m
 pub data_sheet : tabulate 10 (λ i. tabulate (suc (suc i)) (λ r. line_of (suc i) r)) ≡

@@ -1,5 +1,5 @@
 -- A codeword is read as itself: no direction votes to flip, so that the first round settles. Assumes nothing.
-use Prim.Native.Nat.{ℕ, zero, suc, ◌+◌, ◌-◌, ◌*◌, ◌^◌, ◌≤◌, ◌<◌}
+use Prim.Native.Nat.{ℕ, zero, suc, ◌-◌, ◌*◌, ◌^◌, ◌≤◌, ◌<◌}
 use Rattle.std.specs.Prelude.{◌≡◌, true, List}
 use Rattle.std.proofs.Common.{sym, ◌∙◌, one-mul, arith}
 use Rattle.std.proofs.Math.Path.{ap, ap₂}

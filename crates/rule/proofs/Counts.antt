@@ -1,6 +1,6 @@
 -- The number, the rounds and the leaf count of a reading. Assumes nothing.
-use Prim.Native.Nat.{ℕ, zero, suc, pred, ◌+◌, ◌-◌, ◌*◌, ◌^◌, ◌≤◌, ◌<◌}
-use Rattle.std.specs.Prelude.{◌≡◌, refl, Bool, true, false, cond, List, ◌⊎◌, eqb, ℤ, pos, negsuc, nat_abs}
+use Prim.Native.Nat.{ℕ, zero, suc, pred, ◌+◌, ◌-◌, ◌*◌, ◌^◌, ◌≤◌}
+use Rattle.std.specs.Prelude.{◌≡◌, refl, Bool, true, false, cond, List, eqb, ℤ, pos, negsuc, nat_abs}
 use Rattle.std.proofs.Common.{inl, inr, ⊎_elim, le_trans, le_refl, zero-add, arith}
 use Rattle.rule.specs.Reading.{Outcome, accepted, by_sum, flips, leaves_of, order0, order1, reading, refused, round_leaves, rounds}
 use Rattle.rule.proofs.Rounds.{round_cases, rounds_none}

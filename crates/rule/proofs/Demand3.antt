@@ -1,8 +1,8 @@
 -- Demand 3: two words that differ by a codeword are answered alike. And an accepted word is a codeword. Assumes nothing.
-use Rattle.std.specs.Prelude.{ℕ, ◌<◌, ◌≡◌, List, [], ◌++◌}
+use Rattle.std.specs.Prelude.{ℕ, ◌≡◌, List, [], ◌++◌}
 use Rattle.std.proofs.Common.{sym, ap, subst, ◌∙◌, arith}
 use Rattle.code.specs.Code.{IsCodeword}
-use Rattle.rule.specs.Decoding.{answer_of, refusal_of, output_of, values, after, buffer_checks, decode_call, decode_of, decode_profile_call, decode_profile_of, limit_checks, limited, profile_checks}
+use Rattle.rule.specs.Decoding.{answer_of, output_of, values, after, buffer_checks, decode_call, decode_of, decode_profile_call, decode_profile_of, limit_checks, limited, profile_checks}
 use Rattle.rule.specs.Counts.{ByNoise}
 use Rattle.rule.proofs.Counts.{reading_noise}
 use Rattle.rule.proofs.Covariance.{reading_add, reading_in}

@@ -1,6 +1,6 @@
 -- Document 02, request 3: at orders 0 and 1 the places mended are the least distance of the received word to any codeword. Assumes nothing.
-use Rattle.std.specs.Prelude.{ℕ, zero, suc, ◌≤◌, ◌^◌, ◌-◌, ◌≡◌, refl, List, ◌≢◌}
-use Rattle.std.proofs.Common.{sym, ap, ◌∙◌, ⊎_elim, le_refl, arith, pow_pos}
+use Rattle.std.specs.Prelude.{ℕ, zero, suc, ◌≤◌, ◌^◌, ◌-◌, ◌≡◌, List}
+use Rattle.std.proofs.Common.{ap, ⊎_elim, arith, pow_pos}
 use Rattle.words.specs.Word.{IsWord, distance}
 use Rattle.code.specs.Code.{IsCodeword}
 use Rattle.code.proofs.Distance.{distance_self, same_or_apart}

@@ -6,7 +6,7 @@ use Rattle.std.proofs.Common.{arith, leb-true}
 use Rattle.code.specs.Code.{dimension}
 use Rattle.code.specs.Dimension.{choose}
 use Rattle.code.proofs.Dimension.{dimension-choose}
-use Rattle.rule.specs.Decoding.{refusal_of, buffer_checks, decode_profile_call, decode_profile_of, limit_checks, limited, profile_checks}
+use Rattle.rule.specs.Decoding.{buffer_checks, decode_profile_call, decode_profile_of, limit_checks, limited, profile_checks}
 use Rattle.rule.specs.Counts.{ByNoise, most_leaves, Not12}
 use Rattle.rule.proofs.Counts.{reading_most, reading_noise}
 use Rattle.rule.proofs.DecodingLaws.{after_cases, limited_within}

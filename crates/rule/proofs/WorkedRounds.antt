@@ -1,6 +1,6 @@
 -- Readings of a word with only place 0 wrong, worked out a round at a time: order 2 at exponent 4, order 3 at exponent 5. All directions
 -- then have the same projection. Assumes nothing.
-use Rattle.std.specs.Prelude.{ℕ, suc, pred, ◌+◌, ◌-◌, ◌^◌, ◌<◌, ◌≡◌, refl, cond, List, [], ◌∷◌, get_or, replicate}
+use Rattle.std.specs.Prelude.{ℕ, suc, ◌+◌, ◌-◌, ◌^◌, ◌<◌, ◌≡◌, refl, cond, List, [], get_or}
 use Rattle.std.proofs.Common.{sym, ap, ◌∙◌}
 use Rattle.std.specs.Int.Count.{count_leading_zeros, ones, ones_in}
 use Rattle.code.specs.Code.{codeword_test, coefficient, low_test}

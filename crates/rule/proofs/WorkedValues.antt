@@ -1,15 +1,14 @@
 -- The values of the table are those that the definitions give. Assumes nothing.
-use Rattle.std.specs.Prelude.{ℕ, suc, pred, ◌-◌, ◌/◌, ◌%◌, ◌^◌, ◌≡◌, refl, List, [], ◌∷◌, ◌++◌, map, eqb}
+use Rattle.std.specs.Prelude.{ℕ, suc, ◌≡◌, refl, List, ◌++◌, map, eqb}
 use Rattle.std.proofs.Common.{ap, ap₂, ◌∙◌, arith}
-use Rattle.std.specs.Int.Bits.{bit_xor}
 use Rattle.std.specs.Int.Count.{count_leading_zeros, ones, ones_in}
 use Rattle.code.specs.Code.{codeword, codeword_test, coefficient, low_test, monomial, rank, spread}
 use Rattle.code.proofs.Inverse.{encoder_codeword}
 use Rattle.rule.proofs.Covariance.{reading_add}
 use Rattle.rule.specs.Decoding.{after, decode_of, limited}
-use Rattle.rule.specs.Reading.{Outcome, abstained, accepted, flipped, flips, order0, order1, reading, refused, round_leaves, rounds, votes}
+use Rattle.rule.specs.Reading.{abstained, accepted, flipped, flips, order0, order1, reading, round_leaves, rounds, votes}
 use Rattle.rule.specs.Outcomes.{shift}
-use Rattle.rule.specs.WorkedTable.{wrong, zeros, four_wrong, nine_wrong, Row, valued, digits, marked, four, sixteen, beside, deep, cast, table}
+use Rattle.rule.specs.WorkedTable.{wrong, valued, digits, marked, four, sixteen, beside, deep, cast, table}
 use Rattle.rule.proofs.WorkedRounds.{four_rounds, mended, one_round_only, stopped}
 use Rattle.rule.proofs.WorkedVotes.{left_alone, nine_mended}
 use Rattle.direction.specs.Direction.{coset_of, delete_bit, highest, insert_zero, project, representative}

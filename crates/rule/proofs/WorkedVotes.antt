@@ -3,7 +3,7 @@ use Prim.Native.Nat.{ℕ, suc, ◌+◌, ◌-◌, ◌/◌, ◌%◌, ◌^◌, ◌<
 use Rattle.std.specs.Prelude.{◌≡◌, refl, cond, eqb, ltb, pos, nat_abs}
 use Rattle.std.proofs.Math.Path.{ap, ap₂}
 use Rattle.std.proofs.Common.{◌∙◌, ⊎_elim, pow_pos, eq-eqb, ne_eqb}
-use mathlib.Core.List.{List, ◌∷◌}
+use mathlib.Core.List.{List}
 use Rattle.std.specs.Int.Bits.{bit_and}
 use Rattle.std.specs.Int.Count.{count_leading_zeros, ones, ones_in}
 use Rattle.std.proofs.Math.IntN.{ℤ}

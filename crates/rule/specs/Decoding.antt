@@ -1,6 +1,6 @@
 -- The decoder's answer under its limits, for every call: document 01, "A reading at order r", its end, and "Refusals by who causes them".
 -- Assumes nothing.
-use Rattle.std.specs.Prelude.{ℕ, ◌*◌, ◌^◌, cond, ◌||◌, List, [], ◌∷◌, ◌++◌, length, replicate, leb, ltb, eqb, ℤ, pos}
+use Rattle.std.specs.Prelude.{ℕ, ◌*◌, ◌^◌, cond, List, [], ◌∷◌, ◌++◌, length, replicate, leb, ltb, eqb, ℤ, pos}
 use Rattle.refusals.specs.Refusals.{Check, check, first_refusal, code_checks, byte_checks, area_kept}
 use Rattle.words.specs.Word.{distance}
 use Rattle.profiles.specs.declared.Profile.{Profile}

@@ -2,9 +2,8 @@
 use Rattle.std.specs.Prelude.{ℕ, suc, ◌+◌, ◌*◌, ◌≤◌, ◌<◌, ◌≡◌, refl, true, List, ℤ, length}
 use Rattle.std.proofs.Common.{arith, sym, ap, ◌∙◌, eq-eqb, lt-ltb}
 use Rattle.tables.specs.declared.Slot.{Slot}
-use Rattle.rule.specs.Reading.{accepted}
 use Rattle.load.specs.Records.{state_at}
-use Rattle.streets.specs.Street.{Step, other, right, sender_after, steps_after}
+use Rattle.streets.specs.Street.{Step, sender_after, steps_after}
 use Rattle.streets.specs.State.{sender_of, street_after}
 use Rattle.street_runs.specs.Run.{Runs, run_refusal, steps_made}
 use Rattle.street_runs.specs.RunLaws.{run_settled}

@@ -4,7 +4,7 @@ use Rattle.refusals.specs.Refusals.{first_refusal, number_of}
 use Rattle.tables.specs.declared.Slot.{Slot}
 use Rattle.capture.specs.Capture.{word_size}
 use Rattle.streets.specs.Street.{Step, steps_after}
-use Rattle.streets.specs.State.{Showing, shows_none, refused, setting_checks, shows, step, street_by}
+use Rattle.streets.specs.State.{Showing, shows_none, refused, setting_checks, step, street_by}
 use Rattle.streets.specs.declared.Plan.{Plan}
 use Rattle.street_settings.specs.declared.Settings.{Settings}
 use Rattle.street_report.specs.Report.{counts_of, plus_step, step_line}

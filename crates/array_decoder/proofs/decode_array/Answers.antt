@@ -5,7 +5,6 @@ use lib.ListN.{length, replicate}
 use Rattle.words.specs.Parts.{front_length}
 use Rattle.arrays.specs.Arrays.{array_call}
 use Rattle.array_decoder.specs.CallLaws.{array_fits, call_asks, call_read, call_refused}
-use borrow.Author.Rules.{rules}
 use Rattle.array_decoder.proofs.decode_array.Goals as goal
 
 pub returns-in-Refused : goal.returns-in-Refused

@@ -8,7 +8,6 @@ use lib.Pow.{pow_mono}
 use borrow.Rule.Slice.PartMut.{put_mid}
 use Rattle.words.specs.Parts.{back_length, part_length}
 use Rattle.array_decoder.specs.ReadLaws.{column_lent, columns_ask, leaves_fit, lines_read, row_lent, rows_ask}
-use borrow.Author.Rules.{rules}
 use Rattle.array_decoder.proofs.decode_lines.Goals as goal
 
 pub size-a-requires : goal.size-a-requires

@@ -1,6 +1,5 @@
 -- `array_decoder::deliver` meets its contract. Assumes nothing.
 use mathlib.Core.Path.{refl}
-use borrow.Author.Rules.{rules}
 use Rattle.array_decoder.proofs.deliver.Goals as goal
 
 pub returns-then-accepted : goal.returns-then-accepted

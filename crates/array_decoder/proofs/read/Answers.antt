@@ -2,7 +2,6 @@
 use mathlib.Core.Path.{sym}
 use native.Mathlib.Omega.{arith}
 use Rattle.array_decoder.specs.ReadLaws.{delivered, lines_ask, test_asks}
-use borrow.Author.Rules.{rules}
 use Rattle.array_decoder.proofs.read.Goals as goal
 
 pub decode_lines-lines-requires : goal.decode_lines-lines-requires

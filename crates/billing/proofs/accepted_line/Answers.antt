@@ -5,7 +5,6 @@ use mathlib.Core.Path.{◌∙◌}
 use lib.ListN.{length}
 use Rattle.words.specs.Parts.{front_length}
 use Rattle.code.proofs.Dimension.{dimension_most, dimension_size}
-use borrow.Author.Rules.{rules}
 use Rattle.billing.proofs.accepted_line.Goals as goal
 
 pub slice_bounds-message_line-end : goal.slice_bounds-message_line-end

@@ -8,7 +8,6 @@ use Rattle.text.specs.Texts.{Appended, Bits}
 use Rattle.lines.specs.LineLaws.{accepted_length}
 use Rattle.code.proofs.MessageLaws.{message_bits, message_length}
 use Rattle.billing.specs.MessageLines.{reads_message}
-use borrow.Author.Rules.{rules}
 use native.Mathlib.Omega.{arith}
 use Rattle.billing.proofs.message_line.Goals as goal
 

@@ -1,7 +1,6 @@
 -- `billing::put_accepted` meets its contract: its texts stand one after the other. Assumes nothing.
 use Rattle.text.specs.TextLaws.{then_also, ten_length, hex_length}
 use Rattle.lines.specs.LineLaws.{accepted_length}
-use borrow.Author.Rules.{rules}
 use native.Mathlib.Omega.{arith}
 use Rattle.billing.proofs.put_accepted.Goals as goal
 

@@ -4,7 +4,6 @@ use mathlib.Core.Path.{sym, ◌∙◌}
 use Rattle.text.specs.TextLaws.{decimal-length}
 use Rattle.lines.specs.LineLaws.{refused_length}
 use Rattle.billing.specs.AnswerLaws.{answered_accepted, answered_codeword, answered_refused}
-use borrow.Author.Rules.{rules}
 use Rattle.billing.proofs.record_line.Goals as goal
 
 pub accepted_line-requires : goal.accepted_line-requires

@@ -1,5 +1,4 @@
 -- `changed::decode_changed` meets its contract. Assumes nothing.
-use borrow.Author.Rules.{rules}
 use Rattle.changed.proofs.Keeping.{calls_keep}
 use Rattle.changed.proofs.decode_changed.Goals as goal
 

@@ -1,5 +1,4 @@
 -- `changed::decode_profile_changed` meets its contract. Assumes nothing.
-use borrow.Author.Rules.{rules}
 use Rattle.changed.proofs.Keeping.{profiles_keep}
 use Rattle.changed.proofs.decode_profile_changed.Goals as goal
 

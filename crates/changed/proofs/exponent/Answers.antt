@@ -1,6 +1,5 @@
 -- `changed::exponent` meets its contract. Assumes nothing.
 use mathlib.Core.Path.{sym}
-use borrow.Author.Rules.{rules}
 use Rattle.changed.proofs.Keeping.{no_profile}
 use Rattle.changed.proofs.exponent.Goals as goal
 

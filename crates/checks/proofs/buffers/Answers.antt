@@ -5,7 +5,6 @@ use mathlib.Core.List.{[]}
 use native.Mathlib.Omega.{arith}
 use lib.ListN.{length}
 use lib.Pow.{pow_mono}
-use borrow.Author.Rules.{rules}
 use Rattle.refusals.proofs.CheckLaws.{stops, goes_on}
 use Rattle.refusals.specs.Refusals.{Checked, byte_checks}
 use Rattle.rule.specs.Decoding.{size_checks}

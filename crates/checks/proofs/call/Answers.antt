@@ -1,6 +1,5 @@
 -- `checks::call` meets its contract. Assumes nothing.
 use mathlib.Core.Path.{refl}
-use borrow.Author.Rules.{rules}
 use Rattle.refusals.proofs.CheckLaws.{stops, goes_on, code_done}
 use Rattle.rule.specs.Decoding.{buffer_checks}
 use Rattle.checks.proofs.call.Goals as goal

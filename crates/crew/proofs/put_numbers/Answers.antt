@@ -1,6 +1,5 @@
 -- `crew::put_numbers` meets its contract: its texts stand one after the other. Assumes nothing.
 use Rattle.text.specs.TextLaws.{then_also}
-use borrow.Author.Rules.{rules}
 use Rattle.crew.proofs.put_numbers.Goals as goal
 
 pub returns : goal.returns

@@ -1,7 +1,6 @@
 -- `crew::put_serial` meets its contract. Assumes nothing.
 use native.Mathlib.Omega.{arith}
 use borrow.Author.Tests.{eq-eqb, ne_eqb}
-use borrow.Author.Rules.{rules}
 use Rattle.crew.proofs.put_serial.Goals as goal
 
 pub returns-then-refusal-eq16 : goal.returns-then-refusal-eq16

@@ -2,7 +2,6 @@
 use native.Mathlib.Omega.{arith}
 use Rattle.text.specs.TextLaws.{then_also}
 use Rattle.crew.proofs.CrewLaws.{spaced-length}
-use borrow.Author.Rules.{rules}
 use Rattle.crew.proofs.put_spaced.Goals as goal
 
 pub put_decimal-requires : goal.put_decimal-requires

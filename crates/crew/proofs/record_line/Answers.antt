@@ -1,7 +1,6 @@
 -- `crew::record_line` meets its contract: each answer of the decoder has its numbers. Assumes nothing.
 use native.Mathlib.Omega.{arith}
 use Rattle.text.specs.TextLaws.{then_also, ten_length}
-use borrow.Author.Rules.{rules}
 use Rattle.crew.proofs.record_line.Goals as goal
 
 pub put_numbers-requires : goal.put_numbers-requires

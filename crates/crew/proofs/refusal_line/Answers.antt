@@ -2,7 +2,6 @@
 use native.Mathlib.Omega.{arith}
 use Rattle.text.specs.TextLaws.{then_also}
 use Rattle.crew.proofs.CrewLaws.{serial_length}
-use borrow.Author.Rules.{rules}
 use Rattle.crew.proofs.refusal_line.Goals as goal
 
 pub put_numbers-requires : goal.put_numbers-requires

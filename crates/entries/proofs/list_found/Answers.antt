@@ -3,7 +3,6 @@ use native.Mathlib.Omega.{arith}
 use mathlib.Core.Path.{ap, sym, ◌∙◌}
 use Rattle.capture.specs.Capture.{answer_of}
 use Rattle.entries.specs.StepLaws.{found_start, found_word, record_decodable, step_none, step_refused, step_record}
-use borrow.Author.Rules.{rules}
 use Rattle.entries.proofs.list_found.Goals as goal
 
 pub record_line-line-requires : goal.record_line-line-requires

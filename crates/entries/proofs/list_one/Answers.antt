@@ -2,7 +2,6 @@
 use native.Mathlib.Omega.{arith}
 use Prim.Native.Nat.{◌*◌}
 use Rattle.words.specs.Parts.{front_length}
-use borrow.Author.Rules.{rules}
 use Rattle.entries.proofs.list_one.Goals as goal
 
 pub list_found-requires : goal.list_found-requires

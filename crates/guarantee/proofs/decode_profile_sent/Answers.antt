@@ -1,5 +1,4 @@
 -- `guarantee::decode_profile_sent` meets its contract. Assumes nothing.
-use borrow.Author.Rules.{rules}
 use Rattle.guarantee.proofs.Mended.{profile_mended}
 use Rattle.guarantee.proofs.decode_profile_sent.Goals as goal
 

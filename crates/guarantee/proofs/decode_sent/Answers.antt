@@ -1,5 +1,4 @@
 -- `guarantee::decode_sent` meets its contract. Assumes nothing.
-use borrow.Author.Rules.{rules}
 use Rattle.guarantee.proofs.Mended.{call_mended}
 use Rattle.guarantee.proofs.decode_sent.Goals as goal
 

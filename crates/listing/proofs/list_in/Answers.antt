@@ -1,6 +1,5 @@
 -- `listing::list_in` meets its contract: each turn adds a piece. Assumes nothing.
 use native.Mathlib.Omega.{arith}
-use borrow.Author.Rules.{rules}
 use Prim.Native.Nat.{◌-◌, ◌*◌, ◌≤◌}
 use mathlib.Core.Path.{◌≡◌, refl, sym, ap, subst, ◌∙◌}
 use lib.Dec.{eqb}
@@ -15,7 +14,7 @@ use Rattle.readers.specs.Readers.{lines_for}
 use Rattle.pieces.specs.Pieces.{Piece}
 use Rattle.pieces.specs.PieceLaws.{joined, piece_none}
 use Rattle.pieces.specs.Steps.{Ready}
-use Rattle.listing.specs.PartLaws.{Ends, Lent, left, lent_fits, lent_none, rest, turn_piece, turn_lent, turn_less, stops_waiting, stops_ended}
+use Rattle.listing.specs.PartLaws.{Ends, Lent, lent_fits, lent_none, rest, turn_piece, turn_lent, turn_less, stops_waiting, stops_ended}
 use Rattle.listing.proofs.list_in.Goals as goal
 
 pub loop-d-init : goal.loop-d-init

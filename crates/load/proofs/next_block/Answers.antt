@@ -1,6 +1,5 @@
 -- `load::next_block` meets its contract. Assumes nothing.
 use mathlib.Core.Path.{sym, subst}
-use borrow.Author.Rules.{rules}
 use Rattle.tables.specs.Slots.{Proper, slot_proper}
 use Rattle.load.proofs.next_block.Goals as goal
 

@@ -1,5 +1,4 @@
 -- `load::write_capture_profile` meets its contract. Assumes nothing.
-use borrow.Author.Rules.{rules}
 use Rattle.load.specs.CaptureLaws.{slot_fit}
 use Rattle.load.proofs.write_capture_profile.Goals as goal
 

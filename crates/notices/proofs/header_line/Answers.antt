@@ -2,7 +2,6 @@
 use Rattle.text.specs.TextLaws.{decimal-length}
 use Rattle.lines.specs.LineLaws.{header_length}
 use Rattle.notices.specs.PutLaws.{puts, puts_none}
-use borrow.Author.Rules.{rules}
 use native.Mathlib.Omega.{arith}
 use Rattle.notices.proofs.header_line.Goals as goal
 

@@ -4,7 +4,6 @@ use native.Mathlib.Nat.{lt_of_lt_of_le}
 use Rattle.text.specs.TextLaws.{decimal-length}
 use Rattle.lines.specs.LineLaws.{last_length}
 use Rattle.notices.specs.PutLaws.{puts, puts_none}
-use borrow.Author.Rules.{rules}
 use native.Mathlib.Omega.{arith}
 use Rattle.notices.proofs.last_line.Goals as goal
 

@@ -7,7 +7,6 @@ use Rattle.refusals.specs.Refusals.{number_of}
 use Rattle.text.specs.TextLaws.{then_also}
 use Rattle.lines.specs.Lines.{refusal_text}
 use Rattle.lines.specs.LineLaws.{header_length, refusal_length}
-use borrow.Author.Rules.{rules}
 use native.Mathlib.Omega.{arith}
 use Rattle.notices.proofs.put_header.Goals as goal
 

@@ -1,7 +1,6 @@
 -- `notices::put_last` meets its contract: its texts stand one after the other. Assumes nothing.
 use Rattle.text.specs.TextLaws.{then_also}
 use Rattle.lines.specs.LineLaws.{last_length}
-use borrow.Author.Rules.{rules}
 use native.Mathlib.Omega.{arith}
 use Rattle.notices.proofs.put_last.Goals as goal
 

@@ -1,6 +1,5 @@
 -- `pieces::is_ready` meets its contract. Assumes nothing.
 use Rattle.pieces.specs.ReadyLaws.{no_room, no_area, ready_last, ready_there}
-use borrow.Author.Rules.{rules}
 use native.Mathlib.Omega.{arith}
 use Rattle.pieces.proofs.is_ready.Goals as goal
 

@@ -1,7 +1,6 @@
 -- `pieces::lent` meets its contract. Assumes nothing.
 use Prim.Native.Nat.{ℕ, ◌*◌}
 use mathlib.Core.Path.{ap}
-use borrow.Author.Rules.{rules}
 use Rattle.pieces.proofs.lent.Goals as goal
 
 pub returns : goal.returns

@@ -1,5 +1,5 @@
 -- `pieces::move_down` meets its contract: a byte is read before it is written over. Assumes nothing.
-use Prim.Native.Nat.{ℕ, ◌+◌, ◌-◌, ◌≤◌}
+use Prim.Native.Nat.{ℕ, ◌+◌, ◌-◌}
 use native.Mathlib.Nat.{zero-add}
 use mathlib.Core.Path.{◌≡◌, refl, sym, ap, ap₂, ◌∙◌}
 use mathlib.Core.List.{List, ◌++◌}
@@ -8,9 +8,8 @@ use lib.Seq.{get_or-drop}
 use Rattle.words.specs.Word.{bit}
 use Rattle.words.specs.Sum.{tabulate}
 use Rattle.words.specs.SumLaws.{tabulate_ext, tabulate-get_or}
-use Rattle.words.specs.Written.{Written, written_none, written_more, written_to}
+use Rattle.words.specs.Written.{written_none, written_more, written_to}
 use Rattle.text.specs.TextLaws.{a_run}
-use borrow.Author.Rules.{rules}
 use native.Mathlib.Omega.{arith}
 use Rattle.pieces.proofs.move_down.Goals as goal
 

@@ -1,17 +1,9 @@
 -- `pieces::move_down` meets its contract: a byte is read before it is written over. Assumes nothing.
-use Prim.Native.Nat.{ℕ, ◌+◌, ◌-◌, ◌≤◌}
-use native.Mathlib.Nat.{zero-add}
-use mathlib.Core.Path.{◌≡◌, refl, sym, ap, ap₂, ◌∙◌}
-use mathlib.Core.List.{List, ◌++◌}
-use lib.ListN.{length, drop, length-drop, take-append-drop}
-use lib.Seq.{get_or-drop}
+use Prim.Native.Nat.{◌+◌, ◌-◌, ◌≤◌}
+use mathlib.Core.Path.{◌≡◌}
+use lib.ListN.{length}
 use Rattle.words.specs.Word.{bit}
-use Rattle.words.specs.Sum.{tabulate}
-use Rattle.words.specs.SumLaws.{tabulate_ext, tabulate-get_or}
-use Rattle.words.specs.Written.{Written, written_none, written_more, written_to}
-use Rattle.text.specs.TextLaws.{a_run}
-use borrow.Author.Rules.{rules}
-use native.Mathlib.Omega.{arith}
+use Rattle.words.specs.Written.{Written}
 use Rattle.pieces.proofs.move_down.Given as goal
 
 abbrev pub invariant-loop-i : goal.invariant-loop-i

@@ -1,5 +1,4 @@
 -- `readers::refusal_line` meets its contract: each reader has its line. Assumes nothing.
-use borrow.Author.Rules.{rules}
 use Rattle.readers.proofs.refusal_line.Goals as goal
 
 pub returns-in-Billing : goal.returns-in-Billing

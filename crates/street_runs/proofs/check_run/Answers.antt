@@ -4,7 +4,6 @@ use mathlib.Core.List.{[]}
 use Rattle.refusals.specs.Refusals.{answer_number}
 use Rattle.refusals.proofs.CheckLaws.{goes_on, stops}
 use Rattle.streets.specs.CheckLaws.{settled}
-use borrow.Author.Rules.{rules}
 use Rattle.street_runs.proofs.check_run.Goals as goal
 
 pub returns-in-Refused : goal.returns-in-Refused

@@ -1,7 +1,6 @@
 -- `street_runs::run` meets its contract. Assumes nothing.
 use mathlib.Core.Path.{sym, subst}
 use Rattle.tables.specs.Slots.{Proper, slot_proper}
-use borrow.Author.Rules.{rules}
 use Rattle.street_runs.proofs.run.Goals as goal
 
 pub run_in-requires : goal.run_in-requires

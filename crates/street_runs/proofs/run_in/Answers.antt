@@ -4,7 +4,6 @@ use mathlib.Core.List.{[]}
 use Rattle.refusals.specs.Refusals.{Checked, answer_number}
 use Rattle.street_runs.specs.Progress.{unsent}
 use Rattle.street_runs.specs.RunLaws.{runs_done, runs_refused}
-use borrow.Author.Rules.{rules}
 use Rattle.street_runs.proofs.run_in.Goals as goal
 
 pub returns-in-Refused : goal.returns-in-Refused

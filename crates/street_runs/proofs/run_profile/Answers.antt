@@ -1,7 +1,6 @@
 -- `street_runs::run_profile` meets its contract. Assumes nothing.
 use mathlib.Core.Path.{sym, subst}
 use Rattle.tables.specs.Slots.{Proper, slot_proper}
-use borrow.Author.Rules.{rules}
 use Rattle.street_runs.proofs.run_profile.Goals as goal
 
 pub run_in-requires : goal.run_in-requires

@@ -1,7 +1,6 @@
 -- `streets::step_profile` meets its contract. Assumes nothing.
 use mathlib.Core.Path.{sym, subst}
 use Rattle.tables.specs.Slots.{Proper, slot_proper}
-use borrow.Author.Rules.{rules}
 use Rattle.streets.proofs.step_profile.Goals as goal
 
 pub step_in-requires : goal.step_in-requires

@@ -1,5 +1,4 @@
 -- `array_decoder::both::decode_array_both` meets its contract. Assumes nothing.
-use borrow.Author.Rules.{rules}
 use Rattle.array_decoder.specs.AlikeLaws.{calls_alike}
 use Rattle.array_decoder.proofs.both.decode_array_both.Goals as goal
 

@@ -1,6 +1,5 @@
 -- `array_decoder::sides::check_array` meets its contract. Assumes nothing.
 use mathlib.Core.Path.{refl}
-use borrow.Author.Rules.{rules}
 use Rattle.refusals.proofs.CheckLaws.{goes_on, stops}
 use Rattle.arrays.specs.Arrays.{array_buffers}
 use Rattle.array_decoder.specs.SideLaws.{limits_done}

@@ -4,7 +4,6 @@ use mathlib.Core.Path.{refl}
 use mathlib.Core.List.{[]}
 use native.Mathlib.Omega.{arith}
 use lib.ListN.{length}
-use borrow.Author.Rules.{rules}
 use Rattle.refusals.proofs.CheckLaws.{goes_on, stops}
 use Rattle.refusals.specs.Refusals.{Checked, byte_checks}
 use Rattle.rule.specs.Decoding.{size_checks}

@@ -1,6 +1,5 @@
 -- `array_decoder::sides::check_limits` meets its contract. Assumes nothing.
 use mathlib.Core.Path.{refl}
-use borrow.Author.Rules.{rules}
 use Rattle.refusals.proofs.CheckLaws.{goes_on, stops}
 use Rattle.rule.specs.Decoding.{limit_checks}
 use Rattle.array_decoder.proofs.sides.check_limits.Goals as goal

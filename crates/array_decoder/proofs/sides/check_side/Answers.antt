@@ -1,7 +1,6 @@
 -- `array_decoder::sides::check_side` meets its contract. Assumes nothing.
 use mathlib.Core.Path.{refl}
 use native.Mathlib.Omega.{arith}
-use borrow.Author.Rules.{rules}
 use Rattle.refusals.proofs.CheckLaws.{refuses}
 use Rattle.refusals.specs.declared.Refusal.TheVariants.{ArrayExponent}
 use Rattle.array_decoder.specs.SideLaws.{side_checked, side_long}

@@ -3,7 +3,6 @@ use mathlib.Core.Path.{refl}
 use native.Mathlib.Omega.{arith}
 use Rattle.array_lines.specs.ColumnLaws.{column_inside, column_kept, column_runs, column_taken, column_word, put_asks}
 use Rattle.array_lines.specs.LineLaws.{line_kept, line_leaves, line_taken}
-use borrow.Author.Rules.{rules}
 use Rattle.array_lines.proofs.columns.decode_column.Goals as goal
 
 pub gather-requires : goal.gather-requires

@@ -5,7 +5,6 @@ use native.Mathlib.Omega.{arith}
 use lib.ListN.{replicate}
 use lib.Pow.{pow_mono}
 use Rattle.words.specs.Parts.{front_length}
-use borrow.Author.Rules.{rules}
 use Rattle.array_lines.proofs.columns.decode_columns.Goals as goal
 
 pub slice_bounds-line-end : goal.slice_bounds-line-end

@@ -1,11 +1,9 @@
 -- `array_lines::columns::decode_each` meets its contract: the columns read stand as they are left, the others as they were. Assumes nothing.
-use Prim.Native.Nat.{◌-◌, ◌^◌, ◌≤◌}
-use mathlib.Core.Path.{◌≡◌, refl}
+use Prim.Native.Nat.{◌≤◌}
+use mathlib.Core.Path.{refl}
 use native.Mathlib.Omega.{arith}
-use lib.ListN.{length}
 use Rattle.arrays.proofs.Lines.{leaves_most}
-use Rattle.array_lines.specs.Asked.{ColumnsAsk}
-use Rattle.array_lines.specs.ColumnsLaws.{ColumnsDone, column_ready, columns_all, columns_more, columns_none, leaves_few}
+use Rattle.array_lines.specs.ColumnsLaws.{column_ready, columns_all, columns_more, columns_none, leaves_few}
 use Rattle.array_lines.proofs.columns.decode_each.Goals as goal
 
 pub size-a-requires : goal.size-a-requires

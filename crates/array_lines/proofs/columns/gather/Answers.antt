@@ -1,11 +1,7 @@
 -- `array_lines::columns::gather` meets its contract. Assumes nothing.
-use Prim.Native.Nat.{◌+◌, ◌-◌, ◌*◌, ◌≤◌}
-use mathlib.Core.Path.{◌≡◌, refl}
+use mathlib.Core.Path.{refl}
 use native.Mathlib.Omega.{arith}
-use lib.ListN.{length}
-use Rattle.words.specs.Word.{bit}
-use Rattle.words.specs.Written.{Written, written_all, written_more, written_none, written_to}
-use Rattle.array_lines.specs.Asked.{Inside}
+use Rattle.words.specs.Written.{written_all, written_more, written_none, written_to}
 use Rattle.array_lines.proofs.columns.gather.Goals as goal
 
 pub loop-i-init : goal.loop-i-init

@@ -1,10 +1,9 @@
 -- `array_lines::columns::gather` meets its contract. Assumes nothing.
 use Prim.Native.Nat.{◌+◌, ◌-◌, ◌*◌, ◌≤◌}
-use mathlib.Core.Path.{◌≡◌, refl}
-use native.Mathlib.Omega.{arith}
+use mathlib.Core.Path.{◌≡◌}
 use lib.ListN.{length}
 use Rattle.words.specs.Word.{bit}
-use Rattle.words.specs.Written.{Written, written_all, written_more, written_none, written_to}
+use Rattle.words.specs.Written.{Written}
 use Rattle.array_lines.specs.Asked.{Inside}
 use Rattle.array_lines.proofs.columns.gather.Given as goal
 

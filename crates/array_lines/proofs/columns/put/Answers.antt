@@ -1,6 +1,5 @@
 -- `array_lines::columns::put` meets its contract. Assumes nothing.
 use Rattle.array_lines.specs.ScatteredLaws.{scattered_same}
-use borrow.Author.Rules.{rules}
 use Rattle.array_lines.proofs.columns.put.Goals as goal
 
 pub returns-then-mended-eq0 : goal.returns-then-mended-eq0

@@ -1,11 +1,9 @@
 -- `array_lines::columns::scatter` meets its contract. Assumes nothing.
 use Prim.Native.Nat.{◌-◌, ◌≤◌, ◌<◌}
-use mathlib.Core.Path.{◌≡◌, refl, subst}
-use native.Mathlib.Omega.{arith}
+use mathlib.Core.Path.{◌≡◌}
 use lib.ListN.{length}
 use Rattle.array_lines.specs.Asked.{Inside}
 use Rattle.array_lines.specs.Scattered.{Scattered}
-use Rattle.array_lines.specs.ScatteredLaws.{scattered_more, scattered_none}
 use Rattle.array_lines.proofs.columns.scatter.Given as goal
 
 abbrev pub invariant-loop-i : goal.invariant-loop-i

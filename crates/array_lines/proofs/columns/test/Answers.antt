@@ -1,6 +1,4 @@
 -- `array_lines::columns::test` meets its contract. Assumes nothing.
-use borrow.Author.Tests.{not-false, not-true}
-use borrow.Author.Rules.{rules}
 use Rattle.array_lines.proofs.columns.test.Goals as goal
 
 pub returns-then-not-sound : goal.returns-then-not-sound

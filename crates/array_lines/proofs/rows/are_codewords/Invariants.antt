@@ -1,13 +1,9 @@
 -- `array_lines::rows::are_codewords` meets its contract. Assumes nothing.
-use Prim.Native.Nat.{◌+◌, ◌-◌, ◌*◌, ◌^◌, ◌≤◌}
-use mathlib.Core.Path.{◌≡◌, refl, ◌∙◌}
-use native.Mathlib.Omega.{arith}
+use Prim.Native.Nat.{◌-◌, ◌^◌, ◌≤◌}
+use mathlib.Core.Path.{◌≡◌}
 use lib.ListN.{length}
-use lib.Pow.{pow_mono}
-use borrow.Author.Tests.{not-false, not-true}
-use Rattle.words.specs.Parts.{back_length, front_length, part_length}
 use Rattle.array_lines.specs.Asked.{TestAsks}
-use Rattle.array_lines.specs.RowLaws.{RowsTested, part_word, row_within, tested_all, tested_fails, tested_more, tested_none}
+use Rattle.array_lines.specs.RowLaws.{RowsTested}
 use Rattle.array_lines.proofs.rows.are_codewords.Given as goal
 
 abbrev pub invariant-loop-i : goal.invariant-loop-i

@@ -1,5 +1,4 @@
 -- `array_lines::rows::decode_row` meets its contract. Assumes nothing.
-use borrow.Author.Rules.{rules}
 use Rattle.array_lines.specs.LineLaws.{line_leaves}
 use Rattle.array_lines.proofs.rows.decode_row.Goals as goal
 

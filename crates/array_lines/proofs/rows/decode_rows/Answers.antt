@@ -1,11 +1,10 @@
 -- `array_lines::rows::decode_rows` meets its contract: the rows read stand as they are left, the others as received. Assumes nothing.
-use Prim.Native.Nat.{◌+◌, ◌-◌, ◌*◌, ◌^◌, ◌≤◌}
-use mathlib.Core.Path.{◌≡◌, refl, ap}
+use Prim.Native.Nat.{◌+◌, ◌*◌, ◌≤◌}
+use mathlib.Core.Path.{refl, ap}
 use native.Mathlib.Omega.{arith}
 use lib.ListN.{length}
 use Rattle.arrays.proofs.Lines.{leaves_most}
-use Rattle.array_lines.specs.Asked.{RowsAsk}
-use Rattle.array_lines.specs.RowLaws.{RowsDone, row_runs, row_within, rows_array, rows_leaves, rows_more, rows_none, sum_few}
+use Rattle.array_lines.specs.RowLaws.{row_runs, row_within, rows_array, rows_leaves, rows_more, rows_none, sum_few}
 use Rattle.array_lines.proofs.rows.decode_rows.Goals as goal
 
 pub size-n-requires : goal.size-n-requires

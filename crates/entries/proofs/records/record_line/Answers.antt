@@ -2,7 +2,6 @@
 use native.Mathlib.Omega.{arith}
 use Rattle.readers.specs.Readers.{lines_for}
 use Rattle.entries.specs.RecordLaws.{answered_lined, decodes_answered, decodes_area}
-use borrow.Author.Rules.{rules}
 use Rattle.entries.proofs.records.record_line.Goals as goal
 
 pub record_line-requires : goal.record_line-requires

@@ -1,12 +1,9 @@
 -- `load::blocks::add` meets its contract: the loop writes from the front. Assumes nothing.
-use Prim.Native.Nat.{◌-◌, ◌≤◌}
-use mathlib.Core.Path.{◌≡◌, refl, ap, ◌∙◌}
+use mathlib.Core.Path.{refl, ap, ◌∙◌}
 use native.Mathlib.Omega.{arith}
-use borrow.Author.Rules.{rules}
 use lib.Bits.{bit_xor}
-use lib.ListN.{length}
 use Rattle.words.specs.Word.{bit}
-use Rattle.words.specs.Written.{Written, written_none, written_more, written_to, written_all}
+use Rattle.words.specs.Written.{written_none, written_more, written_to, written_all}
 use Rattle.load.specs.BlockLaws.{xor_words}
 use Rattle.load.proofs.blocks.add.Goals as goal
 

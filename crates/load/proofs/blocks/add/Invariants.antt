@@ -1,13 +1,10 @@
 -- `load::blocks::add` meets its contract: the loop writes from the front. Assumes nothing.
 use Prim.Native.Nat.{◌-◌, ◌≤◌}
-use mathlib.Core.Path.{◌≡◌, refl, ap, ◌∙◌}
-use native.Mathlib.Omega.{arith}
-use borrow.Author.Rules.{rules}
+use mathlib.Core.Path.{◌≡◌}
 use lib.Bits.{bit_xor}
 use lib.ListN.{length}
 use Rattle.words.specs.Word.{bit}
-use Rattle.words.specs.Written.{Written, written_none, written_more, written_to, written_all}
-use Rattle.load.specs.BlockLaws.{xor_words}
+use Rattle.words.specs.Written.{Written}
 use Rattle.load.proofs.blocks.add.Given as goal
 
 abbrev pub invariant-loop-i : goal.invariant-loop-i

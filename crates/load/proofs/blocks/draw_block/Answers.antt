@@ -1,6 +1,5 @@
 -- `load::blocks::draw_block` meets its contract: a codeword, the wrong places, and both added. Assumes nothing.
 use native.Mathlib.Omega.{arith}
-use borrow.Author.Rules.{rules}
 use Rattle.code.proofs.Dimension.{dimension_size}
 use Rattle.load.specs.BlockLaws.{block_drawn, noise_word, sent_word}
 use Rattle.load.proofs.blocks.draw_block.Goals as goal

@@ -6,14 +6,13 @@ use mathlib.Core.List.{◌++◌}
 use native.Mathlib.Omega.{arith}
 use lib.Dec.{eqb}
 use lib.ListN.{length, drop}
-use borrow.Author.Tests.{eq-eqb, eqb-true, not-true, not-false}
+use borrow.Author.Tests.{eq-eqb, eqb-true}
 use Rattle.capture.specs.Capture.{record_size}
 use Rattle.capture.specs.Cases.{sized}
 use Rattle.load.specs.Records.{capture_size}
 use Rattle.load.specs.CallLaws.{length_stops, start_known, start_passes, start_stops}
 use Rattle.load.specs.CaptureLaws.{capture_done, capture_refused}
 use Rattle.load.specs.RecordLaws.{head_length, rest_length, stored_after}
-use borrow.Author.Rules.{rules}
 use Rattle.load.proofs.captures.capture_in.Goals as goal
 
 pub returns-in-Refused : goal.returns-in-Refused

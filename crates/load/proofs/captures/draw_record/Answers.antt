@@ -3,7 +3,6 @@ use Prim.Native.Nat.{ℕ, ◌≤◌}
 use mathlib.Core.Path.{◌∙◌}
 use native.Mathlib.Omega.{arith}
 use lib.ListN.{length, replicate}
-use borrow.Author.Rules.{rules}
 use Rattle.words.specs.Parts.{front_length}
 use Rattle.capture.specs.Cases.{sized}
 use Rattle.load.proofs.captures.draw_record.Goals as goal

@@ -1,6 +1,5 @@
 -- `load::captures::draw_record_in` meets its contract: the block is drawn, then its record written. Assumes nothing.
 use native.Mathlib.Omega.{arith}
-use borrow.Author.Rules.{rules}
 use Rattle.capture.specs.Cases.{sized}
 use Rattle.load.specs.CallLaws.{entry_code}
 use Rattle.load.specs.CaptureLaws.{drawn_word, record_drawn}

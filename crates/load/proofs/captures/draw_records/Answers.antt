@@ -1,11 +1,10 @@
 -- `load::captures::draw_records` meets its contract: the loop writes a record a turn. Assumes nothing.
-use Prim.Native.Nat.{◌+◌, ◌-◌, ◌*◌, ◌≤◌}
+use Prim.Native.Nat.{◌+◌, ◌*◌, ◌≤◌}
 use mathlib.Core.Path.{refl}
 use native.Mathlib.Omega.{arith}
 use lib.Dec.{ltb}
 use lib.ListN.{length}
-use borrow.Author.Rules.{rules}
-use Rattle.load.specs.CaptureLaws.{Recorded, record_part, record_room, recorded_all, recorded_more, recorded_none, short_fits}
+use Rattle.load.specs.CaptureLaws.{record_part, record_room, recorded_all, recorded_more, recorded_none, short_fits}
 use Rattle.load.proofs.captures.draw_records.Goals as goal
 
 pub loop-i-init : goal.loop-i-init

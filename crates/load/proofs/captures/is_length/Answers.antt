@@ -1,5 +1,4 @@
 -- `load::captures::is_length` meets its contract. Assumes nothing.
-use borrow.Author.Rules.{rules}
 use Rattle.load.specs.CaptureLaws.{cut_record, no_header, whole_records}
 use Rattle.load.proofs.captures.is_length.Goals as goal
 

@@ -1,9 +1,8 @@
 -- `load::records::octet` meets its contract. Assumes nothing.
-use Prim.Native.Nat.{ℕ, ◌-◌, ◌*◌, ◌<◌, ◌≤◌, ◌^◌}
+use Prim.Native.Nat.{ℕ, ◌*◌, ◌<◌, ◌≤◌, ◌^◌}
 use mathlib.Core.Path.{◌≡◌, refl, ap, ◌∙◌}
 use native.Mathlib.Omega.{arith}
 use lib.Pow.{pow_mono}
-use borrow.Author.Rules.{rules}
 use Rattle.words.specs.Word.{bit}
 use Rattle.words.specs.Sum.{total}
 use Rattle.load.specs.RecordLaws.{binary, binary-lt, binary_more}

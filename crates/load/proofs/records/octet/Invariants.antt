@@ -1,12 +1,8 @@
 -- `load::records::octet` meets its contract. Assumes nothing.
-use Prim.Native.Nat.{ℕ, ◌-◌, ◌*◌, ◌<◌, ◌≤◌, ◌^◌}
-use mathlib.Core.Path.{◌≡◌, refl, ap, ◌∙◌}
-use native.Mathlib.Omega.{arith}
-use lib.Pow.{pow_mono}
-use borrow.Author.Rules.{rules}
+use Prim.Native.Nat.{◌-◌, ◌≤◌}
+use mathlib.Core.Path.{◌≡◌}
 use Rattle.words.specs.Word.{bit}
-use Rattle.words.specs.Sum.{total}
-use Rattle.load.specs.RecordLaws.{binary, binary-lt, binary_more}
+use Rattle.load.specs.RecordLaws.{binary}
 use Rattle.load.proofs.records.octet.Given as goal
 
 abbrev pub invariant-loop-i : goal.invariant-loop-i

@@ -1,13 +1,10 @@
 -- `load::records::pack` meets its contract: the loop writes a byte a turn. Assumes nothing.
 use Prim.Native.Nat.{◌+◌, ◌*◌, ◌-◌, ◌≤◌}
-use mathlib.Core.Path.{◌≡◌, refl, ◌∙◌}
-use native.Mathlib.Omega.{arith}
-use borrow.Author.Rules.{rules}
+use mathlib.Core.Path.{◌≡◌}
 use lib.ListN.{length}
 use Rattle.words.specs.Word.{bit}
-use Rattle.words.specs.Written.{Written, written_none, written_more, written_all}
+use Rattle.words.specs.Written.{Written}
 use Rattle.load.specs.Records.{octet}
-use Rattle.load.specs.RecordLaws.{eight_bits, eight-length, eight-octet, packed_is}
 use Rattle.load.proofs.records.pack.Given as goal
 
 abbrev pub invariant-loop-k : goal.invariant-loop-k

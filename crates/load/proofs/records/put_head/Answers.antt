@@ -2,7 +2,6 @@
 use native.Mathlib.Omega.{arith}
 use lib.ListN.{length-set}
 use Rattle.header.specs.HeaderLaws.{five_stored}
-use borrow.Author.Rules.{rules}
 use Rattle.load.proofs.records.put_head.Goals as goal
 
 pub bounds-out-4 : goal.bounds-out-4

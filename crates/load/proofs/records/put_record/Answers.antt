@@ -2,7 +2,6 @@
 use mathlib.Core.Path.{refl}
 use Rattle.load.specs.Records.{record_bytes}
 use Rattle.load.specs.RecordLaws.{stored_after}
-use borrow.Author.Rules.{rules}
 use Rattle.load.proofs.records.put_record.Goals as goal
 
 pub returns : goal.returns

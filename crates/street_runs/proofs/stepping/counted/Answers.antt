@@ -3,7 +3,6 @@ use mathlib.Core.Path.{sym, ap, ◌∙◌}
 use Rattle.streets.specs.State.{answered}
 use Rattle.street_runs.specs.Progress.{counted_by}
 use Rattle.streets.specs.declared.Fate.{Fate}
-use borrow.Author.Rules.{rules}
 use Rattle.street_runs.proofs.stepping.counted.Goals as goal
 
 pub returns-in-Right : goal.returns-in-Right

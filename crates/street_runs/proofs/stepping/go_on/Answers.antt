@@ -2,7 +2,6 @@
 use mathlib.Core.Path.{refl, sym, ap, ◌∙◌}
 use Rattle.streets.specs.State.{shown_as}
 use Rattle.street_runs.specs.RunLaws.{gone, gone_sent, sent_fits}
-use borrow.Author.Rules.{rules}
 use Rattle.street_runs.proofs.stepping.go_on.Goals as goal
 
 pub put-requires : goal.put-requires

@@ -3,7 +3,6 @@ use mathlib.Core.Path.{sym, ap, ◌∙◌}
 use Rattle.streets.specs.State.{answered}
 use Rattle.street_runs.specs.Run.{answer_in}
 use Rattle.streets.specs.declared.Fate.{Fate}
-use borrow.Author.Rules.{rules}
 use Rattle.street_runs.proofs.stepping.number.Goals as goal
 
 pub returns-in-Refused : goal.returns-in-Refused

@@ -2,7 +2,6 @@
 use native.Mathlib.Omega.{arith}
 use lib.ListN.{length-set}
 use Rattle.street_runs.specs.RunLaws.{log_full, log_room}
-use borrow.Author.Rules.{rules}
 use Rattle.street_runs.proofs.stepping.put.Goals as goal
 
 pub returns-then-log-i : goal.returns-then-log-i

@@ -1,10 +1,6 @@
 -- `street_runs::stepping::run_steps` meets its contract: a step a turn. Assumes nothing.
-use Prim.Native.Nat.{ℕ, ◌-◌}
-use mathlib.Core.Path.{◌≡◌, ◌∙◌}
-use native.Mathlib.Omega.{arith}
-use lib.ListN.{length}
-use borrow.Author.Rules.{rules}
-use Rattle.street_runs.specs.RunLaws.{Going, going_all, going_ended, going_first, going_goable, going_more}
+use Prim.Native.Nat.{◌-◌}
+use Rattle.street_runs.specs.RunLaws.{Going}
 use Rattle.street_runs.proofs.stepping.run_steps.Given as goal
 
 abbrev pub invariant-loop-i : goal.invariant-loop-i

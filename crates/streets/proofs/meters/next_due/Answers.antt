@@ -1,13 +1,8 @@
 -- `streets::meters::next_due` meets its contract. Assumes nothing.
-use Prim.Native.Nat.{ℕ, ◌-◌, ◌≤◌, ◌<◌}
 use native.Mathlib.Nat.{le_refl}
 use native.Mathlib.Omega.{arith}
-use mathlib.Core.Path.{◌≡◌, sym, ◌∙◌}
-use mathlib.Core.Bool.{false}
+use mathlib.Core.Path.{sym, ◌∙◌}
 use borrow.Author.Count.{below_more}
-use borrow.Author.Rules.{rules}
-use Rattle.words.specs.Word.{bit}
-use Rattle.streets.specs.State.{waits_from}
 use Rattle.streets.specs.MeterLaws.{due_is}
 use Rattle.streets.proofs.meters.next_due.Goals as goal
 

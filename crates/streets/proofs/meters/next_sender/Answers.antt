@@ -1,6 +1,5 @@
 -- `streets::meters::next_sender` meets its contract. Assumes nothing.
 use Rattle.streets.specs.MeterLaws.{last_turn, none_refused, sends_again, sends_now}
-use borrow.Author.Rules.{rules}
 use Rattle.streets.proofs.meters.next_sender.Goals as goal
 
 pub returns-then-i-plan : goal.returns-then-i-plan

@@ -1,6 +1,5 @@
 -- `streets::sends::judge` meets its contract. Assumes nothing.
 use Rattle.streets.specs.SendLaws.{other_is, refused_is, right_is}
-use borrow.Author.Rules.{rules}
 use Rattle.streets.proofs.sends.judge.Goals as goal
 
 pub returns-then-distance-eq0 : goal.returns-then-distance-eq0

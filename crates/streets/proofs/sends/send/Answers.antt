@@ -1,6 +1,5 @@
 -- `streets::sends::send` meets its contract. Assumes nothing.
 use Rattle.streets.specs.SendLaws.{fits, own_buffers}
-use borrow.Author.Rules.{rules}
 use Rattle.streets.proofs.sends.send.Goals as goal
 
 pub slice_bounds-sent-end : goal.slice_bounds-sent-end

@@ -1,6 +1,5 @@
 -- `streets::sends::send_in` meets its contract: a block drawn, decoded and judged. Assumes nothing.
 use Rattle.streets.specs.SendLaws.{block_sent, got_is_word, sent_is_word}
-use borrow.Author.Rules.{rules}
 use Rattle.streets.proofs.sends.send_in.Goals as goal
 
 pub judge-requires : goal.judge-requires

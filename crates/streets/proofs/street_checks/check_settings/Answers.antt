@@ -2,7 +2,6 @@
 use mathlib.Core.Path.{refl}
 use mathlib.Core.List.{[]}
 use Rattle.refusals.proofs.CheckLaws.{goes_on, stops}
-use borrow.Author.Rules.{rules}
 use Rattle.streets.proofs.street_checks.check_settings.Goals as goal
 
 pub returns-in-Refused : goal.returns-in-Refused

@@ -3,7 +3,6 @@ use mathlib.Core.Path.{sym, ap, ◌∙◌}
 use Rattle.refusals.specs.Refusals.{answer_number}
 use Rattle.streets.specs.CheckLaws.{roomy}
 use Rattle.streets.specs.StepLaws.{room_refused, sent_leaves}
-use borrow.Author.Rules.{rules}
 use Rattle.streets.proofs.street_steps.send_next.Goals as goal
 
 pub returns-in-Refused : goal.returns-in-Refused

@@ -1,5 +1,4 @@
 -- `streets::street_steps::sent_by` meets its contract. Assumes nothing.
-use borrow.Author.Rules.{rules}
 use Rattle.streets.proofs.street_steps.sent_by.Goals as goal
 
 pub returns : goal.returns

@@ -5,7 +5,6 @@ use Rattle.refusals.specs.Refusals.{answer_number, first_refusal}
 use Rattle.streets.specs.State.{setting_checks}
 use Rattle.streets.specs.CheckLaws.{Settled, settled}
 use Rattle.streets.specs.StepLaws.{sender_within, steps_none, steps_refused, steps_sent}
-use borrow.Author.Rules.{rules}
 use Rattle.streets.proofs.street_steps.step_in.Goals as goal
 
 pub returns-in-Refused : goal.returns-in-Refused
