@@ -22,8 +22,8 @@
  *   - each pointer is valid for its length;
  *   - the output overlaps the input nowhere.
  *
- * Stack: gateway_decode holds its own working numbers there, in all 10,240 bytes at most; the other calls take 2,560. What memcpy and memset take
- * comes on top. (Measured on x86-64, not proved.)
+ * Stack: gateway_decode holds its own working numbers there, in all 11,264 bytes at most; the other calls take 2,560. (Measured on x86-64 with the C
+ * library's memcpy and memset, not proved.)
  */
 #ifndef FEZQALYR_GATEWAY_H
 #define FEZQALYR_GATEWAY_H
