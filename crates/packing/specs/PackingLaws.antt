@@ -1,11 +1,10 @@
 -- What is returned, from the core's contracts. Assumes nothing.
 use Rattle.std.specs.Prelude.{ℕ, ◌≡◌, refl, Bool, true, false, cond, List, eqb, ℤ}
-use Rattle.std.proofs.Common.{sym, ap, ap₂, ◌∙◌, arith, eqb-true}
+use Rattle.std.proofs.Common.{sym, ap, ap₂, ◌∙◌, eqb-true}
 use Rattle.std.proofs.lemmas.Bool.{eqb-false}
 use Rattle.words.specs.Word.{indicator}
 use Rattle.refusals.specs.declared.Answer.{Answer}
 use Rattle.refusals.specs.declared.Decoded.{Decoded}
-use Rattle.refusals.proofs.CheckLaws.{number_pos}
 use Rattle.refusals.specs.Refusals.{Check, answer_number, answer_place, first_refusal, place_named}
 use Rattle.code.specs.Code.{codeword_test}
 use Rattle.codec_checks.specs.Checks.{test_checks}

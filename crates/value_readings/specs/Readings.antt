@@ -1,6 +1,5 @@
 -- What a reading of confidences asks and promises. Assumes nothing.
 use Rattle.std.specs.Prelude.{ℕ, ◌*◌, ◌^◌, ◌≤◌, ◌≡◌, List, length, ℤ}
-use Rattle.rule.specs.Reading.{Outcome}
 use Rattle.rule.specs.Decoding.{limited}
 use Rattle.told.specs.Told.{Read}
 use Rattle.confidences.specs.Confidences.{reading, zero_place}

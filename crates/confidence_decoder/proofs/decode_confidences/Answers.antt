@@ -1,5 +1,4 @@
 -- `confidence_decoder::decode_confidences` meets its contract. Assumes nothing.
-use borrow.Author.Rules.{rules}
 use mathlib.Core.Path.{refl}
 use Rattle.confidences.specs.Answers.{confidence_call}
 use Rattle.confidence_decoder.proofs.Calls.{checks_passed, checks_refused, passed_decodes, passed_runs}

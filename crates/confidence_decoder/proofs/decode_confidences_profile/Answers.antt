@@ -1,6 +1,5 @@
 -- `confidence_decoder::decode_confidences_profile` meets its contract. Assumes nothing.
 use native.Mathlib.Omega.{arith}
-use borrow.Author.Rules.{rules}
 use Rattle.confidence_decoder.proofs.Calls.{no_profile, profile_decodes}
 use Rattle.confidence_decoder.proofs.decode_confidences_profile.Goals as goal
 

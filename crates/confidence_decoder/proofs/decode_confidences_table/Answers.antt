@@ -1,5 +1,4 @@
 -- `confidence_decoder::decode_confidences_table` meets its contract. Assumes nothing.
-use borrow.Author.Rules.{rules}
 use borrow.Author.Tests.{not-false, not-true}
 use Rattle.confidence_decoder.proofs.Calls.{entry_decodes, no_entry}
 use Rattle.confidence_decoder.proofs.decode_confidences_table.Goals as goal

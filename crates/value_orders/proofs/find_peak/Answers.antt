@@ -3,7 +3,6 @@ use Prim.Native.Nat.{ℕ, suc, ◌+◌, ◌-◌, ◌^◌}
 use mathlib.Core.Path.{◌≡◌, ap, subst}
 use native.Mathlib.Omega.{arith}
 use lib.ListN.{length}
-use borrow.Author.Rules.{rules}
 use Rattle.area.specs.Area.{at}
 use Rattle.hadamard.specs.Correlation.{correlation}
 use Rattle.peaks.specs.Peaks.{IsPeak}

@@ -2,8 +2,6 @@
 use Prim.Native.Nat.{◌^◌}
 use mathlib.Core.Bool.{true}
 use mathlib.Core.Path.{sym, ◌∙◌}
-use borrow.Author.Rules.{rules}
-use borrow.Author.Tests.{not-false}
 use Rattle.area.specs.Area.{at}
 use Rattle.rule.specs.Reading.{order1}
 use Rattle.value_orders.specs.Leaves.{Leaf}

@@ -1,9 +1,8 @@
 -- `value_orders::sum_of` meets its contract. Assumes nothing.
 use Prim.Native.Nat.{◌-◌}
-use native.Mathlib.Omega.{arith}
 use mir.Syntax.{w32}
 use mir.Val.{of_z}
-use Rattle.value_orders.specs.OrderLaws.{Summed, summed_none, summed_fits, summed_more, summed_all}
+use Rattle.value_orders.specs.OrderLaws.{Summed}
 use Rattle.value_orders.proofs.sum_of.Given as goal
 
 abbrev pub invariant-loop-p : goal.invariant-loop-p

@@ -4,7 +4,6 @@ use mathlib.Core.Path.{◌≡◌, sym, ◌∙◌, subst}
 use native.Mathlib.Omega.{arith}
 use lib.ListN.{length}
 use lib.Pow.{pow_mono}
-use borrow.Author.Rules.{rules}
 use Rattle.told.specs.WordPart.{lent_size, read_back}
 use Rattle.confidences.specs.Values.{Values}
 use Rattle.value_orders.specs.OrderLaws.{zero_tie, zero_ones, zero_zeros}

@@ -1,7 +1,6 @@
 -- `confidence_decoder::answers::answered` meets its contract. Assumes nothing.
 use Prim.Native.Nat.{ℕ}
 use mathlib.Core.Path.{sym, ap, subst, ◌∙◌}
-use borrow.Author.Rules.{rules}
 use Rattle.rule.specs.Decoding.{values}
 use Rattle.delivery.specs.Delivery.{values_in}
 use Rattle.confidences.specs.Confidences.{signs_of}

@@ -1,10 +1,9 @@
 -- `confidence_decoder::answers::mended` meets its contract: the loop counts the places so far. Assumes nothing.
-use Prim.Native.Nat.{ℕ, ◌+◌, ◌-◌, ◌^◌, ◌≤◌}
+use Prim.Native.Nat.{ℕ, ◌+◌, ◌^◌, ◌≤◌}
 use mathlib.Core.Path.{◌≡◌, refl, sym, ap, ◌∙◌}
 use native.Mathlib.Omega.{arith}
 use lib.Bits.{bit_xor}
 use lib.Pow.{pow_mono}
-use borrow.Author.Rules.{rules}
 use Rattle.words.specs.Sum.{sum_below, total}
 use Rattle.words.specs.SumLaws.{sum_more}
 use Rattle.words.specs.Word.{bit, differs, distance}

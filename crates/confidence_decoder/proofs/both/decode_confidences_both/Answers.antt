@@ -1,5 +1,4 @@
 -- `confidence_decoder::both::decode_confidences_both` meets its contract. Assumes nothing.
-use borrow.Author.Rules.{rules}
 use Rattle.confidences.proofs.AlikeLaws.{calls_alike}
 use Rattle.confidence_decoder.proofs.both.decode_confidences_both.Goals as goal
 

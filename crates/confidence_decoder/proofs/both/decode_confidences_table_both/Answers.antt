@@ -1,5 +1,4 @@
 -- `confidence_decoder::both::decode_confidences_table_both` meets its contract. Assumes nothing.
-use borrow.Author.Rules.{rules}
 use Rattle.confidences.proofs.AlikeLaws.{entries_alike}
 use Rattle.confidence_decoder.proofs.both.decode_confidences_table_both.Goals as goal
 

@@ -1,10 +1,6 @@
 -- `confidence_decoder::runs::load` meets its contract. Assumes nothing.
-use Prim.Native.Nat.{◌-◌, ◌≤◌}
 use native.Mathlib.Omega.{arith}
-use lib.ListN.{length}
-use lib.IntN.{pos}
-use borrow.Author.Rules.{rules}
-use Rattle.words.specs.Written.{Written, written_none, written_more, written_to}
+use Rattle.words.specs.Written.{written_none, written_more, written_to}
 use Rattle.area.specs.Area.{at}
 use Rattle.confidence_decoder.specs.Numbers.{sixteen_fits, sixteen-stored}
 use Rattle.confidence_decoder.proofs.runs.load.Goals as goal

@@ -1,6 +1,5 @@
 -- `confidence_decoder::runs::run` meets its contract. Assumes nothing.
 use native.Mathlib.Omega.{arith}
-use borrow.Author.Rules.{rules}
 use Rattle.confidence_decoder.proofs.Whole.{loaded_ready, read_accepts, read_decodes, read_delivers}
 use Rattle.confidence_decoder.proofs.runs.run.Goals as goal
 

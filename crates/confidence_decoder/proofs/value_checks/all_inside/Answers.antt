@@ -1,10 +1,8 @@
 -- `confidence_decoder::value_checks::all_inside` meets its contract: all is the test of the values passed. Assumes nothing.
-use Prim.Native.Nat.{ℕ, ◌-◌, ◌≤◌}
-use mathlib.Core.Path.{◌≡◌, refl, ap, ◌∙◌}
+use Prim.Native.Nat.{ℕ}
+use mathlib.Core.Path.{refl, ap, ◌∙◌}
 use mathlib.Core.Bool.{Bool, ◌&&◌}
 use native.Mathlib.Omega.{arith}
-use lib.ListN.{length}
-use borrow.Author.Rules.{rules}
 use Rattle.words.specs.Sum.{all_below}
 use Rattle.words.specs.SumLaws.{all_none, all_more}
 use Rattle.area.specs.Area.{at}

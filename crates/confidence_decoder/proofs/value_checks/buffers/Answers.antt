@@ -5,7 +5,6 @@ use mathlib.Core.List.{[]}
 use native.Mathlib.Omega.{arith}
 use lib.ListN.{length}
 use lib.Pow.{pow_mono}
-use borrow.Author.Rules.{rules}
 use Rattle.refusals.specs.Refusals.{Checked}
 use Rattle.rule.specs.Decoding.{size_checks}
 use Rattle.confidence_decoder.specs.Checked.{range_checks}

@@ -1,6 +1,5 @@
 -- `confidence_decoder::value_checks::call` meets its contract. Assumes nothing.
 use mathlib.Core.Path.{refl}
-use borrow.Author.Rules.{rules}
 use Rattle.refusals.proofs.CheckLaws.{code_done}
 use Rattle.confidences.specs.Answers.{value_checks}
 use Rattle.confidence_decoder.specs.CheckedLaws.{goes_on_values, stops_values}

@@ -1,15 +1,10 @@
 -- `confidence_decoder::value_checks::lowest_outside` meets its contract: every value is in the range where all pass the test, else every one that was passed. Assumes nothing.
-use Prim.Native.Nat.{ℕ, ◌-◌, ◌≤◌, ◌<◌}
 use mathlib.Core.Path.{sym, ◌∙◌}
 use native.Mathlib.Omega.{arith}
-use lib.IntN.{nat_abs}
-use lib.ListN.{length}
 use borrow.Author.Count.{below_more}
-use borrow.Author.Rules.{rules}
 use borrow.Author.Tests.{leb-true}
 use Rattle.words.specs.SumLaws.{all_true}
 use Rattle.area.specs.Area.{at}
-use Rattle.confidences.specs.Confidences.{greatest}
 use Rattle.confidence_decoder.specs.CheckedLaws.{outside_found}
 use Rattle.confidence_decoder.specs.Numbers.{inside, over, under}
 use Rattle.confidence_decoder.proofs.value_checks.lowest_outside.Goals as goal

@@ -1,6 +1,5 @@
 -- `confidence_decoder::value_checks::range` meets its contract. Assumes nothing.
 use native.Mathlib.Omega.{arith}
-use borrow.Author.Rules.{rules}
 use Rattle.confidence_decoder.specs.CheckedLaws.{none_outside, outside_named}
 use Rattle.confidence_decoder.proofs.value_checks.range.Goals as goal
 

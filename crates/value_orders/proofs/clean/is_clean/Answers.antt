@@ -3,8 +3,6 @@ use Prim.Native.Nat.{ℕ, suc, ◌-◌}
 use mathlib.Core.Bool.{true}
 use mathlib.Core.Path.{◌≡◌, refl, sym, ap, ◌∙◌, subst}
 use native.Mathlib.Omega.{arith}
-use borrow.Author.Rules.{rules}
-use borrow.Author.Tests.{not-true, not-false}
 use lib.Pow.{pow_mono, pow_pos}
 use Rattle.words.specs.Sum.{all_below}
 use Rattle.code.specs.FirstOrder.{levels_test}

@@ -1,11 +1,10 @@
 -- `value_orders::clean::last_level` meets its contract: same is the test of the places passed. Assumes nothing.
-use Prim.Native.Nat.{ℕ, ◌+◌, ◌-◌, ◌^◌, ◌≤◌, ◌<◌}
+use Prim.Native.Nat.{ℕ, ◌+◌, ◌^◌, ◌<◌}
 use mathlib.Core.Bool.{not}
-use mathlib.Core.Path.{◌≡◌, ap, ap₂, ◌∙◌}
+use mathlib.Core.Path.{ap, ap₂, ◌∙◌}
 use native.Mathlib.Omega.{arith}
 use lib.Dec.{eqb}
 use lib.Signed.{mag}
-use borrow.Author.Rules.{rules}
 use Rattle.words.specs.Sum.{all_below}
 use Rattle.words.specs.SumLaws.{all_none}
 use Rattle.area.specs.Area.{at}

@@ -1,10 +1,8 @@
 -- `value_orders::clean::levels_from` meets its contract: the levels below k pass. Assumes nothing.
-use Prim.Native.Nat.{ℕ, suc, ◌-◌, ◌^◌, ◌≤◌}
-use mathlib.Core.Bool.{true}
+use Prim.Native.Nat.{ℕ, suc, ◌^◌}
 use mathlib.Core.Path.{◌≡◌, sym, ap, ◌∙◌}
 use native.Mathlib.Numerals.{add-one}
 use native.Mathlib.Omega.{arith}
-use borrow.Author.Tests.{not-true, not-false}
 use lib.Pow.{pow_mono, pow_pos}
 use Rattle.value_orders.specs.Leaves.{sign_at}
 use Rattle.value_orders.specs.CleanLaws.{values_fewer}

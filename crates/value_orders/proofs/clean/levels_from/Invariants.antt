@@ -1,15 +1,9 @@
 -- `value_orders::clean::levels_from` meets its contract: the levels below k pass. Assumes nothing.
-use Prim.Native.Nat.{ℕ, suc, ◌-◌, ◌^◌, ◌≤◌}
+use Prim.Native.Nat.{◌-◌, ◌≤◌}
 use mathlib.Core.Bool.{true}
-use mathlib.Core.Path.{◌≡◌, sym, ap, ◌∙◌}
-use native.Mathlib.Numerals.{add-one}
-use native.Mathlib.Omega.{arith}
-use borrow.Author.Tests.{not-true, not-false}
-use lib.Pow.{pow_mono, pow_pos}
+use mathlib.Core.Path.{◌≡◌}
 use Rattle.value_orders.specs.Leaves.{sign_at}
-use Rattle.value_orders.specs.CleanLaws.{values_fewer}
-use Rattle.code.specs.FirstOrder.{repeats, levels_test}
-use Rattle.code.proofs.FirstOrderLaws.{levels_next, levels_stop}
+use Rattle.code.specs.FirstOrder.{levels_test}
 use Rattle.value_orders.proofs.clean.levels_from.Given as goal
 
 abbrev pub invariant-loop-k : goal.invariant-loop-k

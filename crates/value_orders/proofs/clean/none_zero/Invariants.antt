@@ -1,15 +1,8 @@
 -- `value_orders::clean::none_zero` meets its contract. Assumes nothing.
-use Prim.Native.Nat.{ℕ, ◌-◌, ◌≤◌}
-use mathlib.Core.Path.{◌≡◌, ap, ◌∙◌}
-use mathlib.Core.Bool.{Bool, not, ◌&&◌}
-use native.Mathlib.Omega.{arith}
-use borrow.Author.Rules.{rules}
+use Prim.Native.Nat.{◌-◌, ◌≤◌}
+use mathlib.Core.Path.{◌≡◌}
 use Rattle.words.specs.Sum.{all_below}
-use Rattle.words.specs.SumLaws.{all_none, all_more}
-use Rattle.area.specs.Area.{at}
-use Rattle.area.specs.Numbers.{fits_32}
 use Rattle.value_orders.specs.Leaves.{is_some}
-use Rattle.value_orders.specs.SignLaws.{zero_test}
 use Rattle.value_orders.proofs.clean.none_zero.Given as goal
 
 abbrev pub invariant-loop-i : goal.invariant-loop-i

@@ -1,10 +1,9 @@
 -- `value_orders::clean::repeats` meets its contract: same is the test of the places passed. Assumes nothing.
-use Prim.Native.Nat.{◌+◌, ◌-◌, ◌≤◌}
-use mathlib.Core.Path.{◌≡◌, ap, ap₂, ◌∙◌}
+use Prim.Native.Nat.{◌+◌}
+use mathlib.Core.Path.{ap, ap₂, ◌∙◌}
 use mathlib.Core.Bool.{Bool, ◌&&◌}
 use native.Mathlib.Omega.{arith}
 use lib.Dec.{eqb}
-use borrow.Author.Rules.{rules}
 use Rattle.code.specs.FirstOrder.{repeats_below, repeats}
 use Rattle.words.specs.SumLaws.{all_none, all_more}
 use Rattle.value_orders.specs.Leaves.{sign_at}

@@ -4,7 +4,6 @@ use mathlib.Core.Path.{◌≡◌, sym, ◌∙◌}
 use native.Mathlib.Omega.{arith}
 use lib.IntN.{pos}
 use lib.ListN.{length}
-use borrow.Author.Rules.{rules}
 use Rattle.words.specs.Written.{Written, written_to}
 use Rattle.area.specs.Area.{at}
 use Rattle.hadamard.specs.Correlation.{constant_of}

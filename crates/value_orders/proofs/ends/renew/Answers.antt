@@ -1,11 +1,6 @@
 -- `value_orders::ends::renew` meets its contract. Assumes nothing.
-use Prim.Native.Nat.{◌+◌, ◌-◌, ◌≤◌}
 use native.Mathlib.Omega.{arith}
-use lib.IntN.{pos}
-use borrow.Author.Rules.{rules}
-use Rattle.words.specs.Written.{Written, written_none, written_more, written_to}
-use Rattle.area.specs.Area.{at}
-use Rattle.confidences.specs.Confidences.{cut}
+use Rattle.words.specs.Written.{written_none, written_more, written_to}
 use Rattle.value_orders.specs.EndLaws.{sum_small, cut_written}
 use Rattle.value_orders.proofs.ends.renew.Goals as goal
 

@@ -1,15 +1,10 @@
 -- `value_orders::pairs::ends` meets its contract. Assumes nothing.
-use Prim.Native.Nat.{ℕ, ◌+◌, ◌-◌, ◌^◌, ◌≤◌, ◌<◌}
-use mathlib.Core.Path.{◌≡◌, refl, ap, ◌∙◌}
-use mathlib.Core.Logic.{⊎_elim}
-use native.Mathlib.Omega.{arith}
-use lib.IntN.{pos}
+use Prim.Native.Nat.{◌+◌, ◌-◌, ◌≤◌, ◌<◌}
+use mathlib.Core.Path.{◌≡◌}
 use mir.Syntax.{w32}
 use mir.Val.{of_z}
 use Rattle.peaks.specs.Peaks.{pair_sizes}
-use Rattle.peaks.specs.PairLaws.{pair_asked, pair_small, pair_is}
-use Rattle.value_orders.specs.KeyLaws.{up_fits, up_is, down_fits, down_is, scaled_fits, key_fits, key_is}
-use Rattle.peaks.specs.Searches.{Greatest, greatest_none, greatest_read, greatest_new, greatest_kept}
+use Rattle.peaks.specs.Searches.{Greatest}
 use Rattle.value_orders.specs.Places.{up_key, down_key}
 use Rattle.value_orders.proofs.pairs.ends.Given as goal
 

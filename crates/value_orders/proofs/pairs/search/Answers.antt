@@ -4,7 +4,6 @@ use mathlib.Core.Path.{◌≡◌, refl, sym, ap, ◌∙◌}
 use native.Mathlib.Omega.{arith}
 use lib.IntN.{nat_abs, pos}
 use lib.Signed.{rem_z}
-use borrow.Author.Rules.{rules}
 use Rattle.words.specs.Sum.{greatest_below}
 use Rattle.area.specs.Area.{at}
 use Rattle.area.specs.Numbers.{stored}

@@ -1,16 +1,11 @@
 -- `value_orders::signs::repeat_signs` meets its contract. Assumes nothing.
 use Prim.Native.Nat.{◌-◌, ◌≤◌}
-use mathlib.Core.Path.{◌≡◌, refl}
-use native.Mathlib.Omega.{arith}
+use mathlib.Core.Path.{◌≡◌}
 use lib.IntN.{pos}
 use lib.ListN.{length}
-use mir.Syntax.{w32}
-use mir.Val.{to_z}
-use borrow.Author.Rules.{rules}
-use Rattle.words.specs.Written.{Written, written_none, written_more, written_to}
+use Rattle.words.specs.Written.{Written}
 use Rattle.area.specs.Area.{at}
 use Rattle.value_orders.specs.Doubling.{turned}
-use Rattle.value_orders.specs.DoublingLaws.{sign_back, sign_turned}
 use Rattle.value_orders.proofs.signs.repeat_signs.Given as goal
 
 abbrev pub invariant-loop-i : goal.invariant-loop-i

@@ -1,17 +1,12 @@
 -- `value_orders::signs::to_bits` meets its contract. Assumes nothing.
-use Prim.Native.Nat.{◌-◌, ◌≤◌}
 use mathlib.Core.Path.{◌≡◌, ap, sym, ◌∙◌}
-use mathlib.Core.Logic.{⊎_elim}
 use native.Mathlib.Omega.{arith}
 use lib.IntN.{ℤ, pos}
 use mir.Syntax.{w32}
 use mir.Val.{to_z}
-use borrow.Author.Rules.{rules}
-use Rattle.words.specs.Written.{Written, written_none, written_more, written_to}
+use Rattle.words.specs.Written.{written_none, written_more, written_to}
 use Rattle.area.specs.Area.{at}
-use Rattle.area.specs.Numbers.{byte_number}
 use Rattle.hadamard.specs.Correlation.{constant_of}
-use Rattle.hadamard.specs.CorrelationLaws.{constant_of-lt}
 use Rattle.value_orders.specs.SignLaws.{sign_taken, sign_left}
 use Rattle.value_orders.proofs.signs.to_bits.Goals as goal
 use Rattle.value_orders.proofs.signs.to_bits.Goals.{then-area-p-lt0, else-area-p-lt0}

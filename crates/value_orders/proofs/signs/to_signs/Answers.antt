@@ -1,11 +1,7 @@
 -- `value_orders::signs::to_signs` meets its contract. Assumes nothing.
-use Prim.Native.Nat.{◌-◌, ◌≤◌}
 use mathlib.Core.Path.{◌≡◌}
 use native.Mathlib.Omega.{arith}
-use lib.IntN.{pos, neg_ℤ}
-use lib.ListN.{length}
-use borrow.Author.Rules.{rules}
-use Rattle.words.specs.Written.{Written, written_none, written_more, written_to}
+use Rattle.words.specs.Written.{written_none, written_more, written_to}
 use Rattle.area.specs.Area.{at, IsBit}
 use Rattle.value_orders.specs.SignLaws.{turned_fits, turned_is}
 use Rattle.value_orders.proofs.signs.to_signs.Goals as goal

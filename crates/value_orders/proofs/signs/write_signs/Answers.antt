@@ -1,9 +1,7 @@
 -- `value_orders::signs::write_signs` meets its contract: 16 places by their bits, and each turn of the loop writes as many again. Assumes nothing.
-use Prim.Native.Nat.{◌+◌, ◌-◌, ◌%◌, ◌≤◌, ◌<◌}
-use mathlib.Core.Path.{◌≡◌, ap, ◌∙◌}
-use mathlib.Core.Logic.{⊎_elim}
+use Prim.Native.Nat.{◌+◌, ◌%◌, ◌≤◌, ◌<◌}
+use mathlib.Core.Path.{◌≡◌, ◌∙◌}
 use native.Mathlib.Omega.{arith}
-use borrow.Author.Rules.{rules}
 use lib.Bits.{bit_and}
 use lib.Count.{ones}
 use lib.IntN.{pos, neg_ℤ}
@@ -16,7 +14,7 @@ use Rattle.area.specs.Area.{IsBit}
 use Rattle.area.proofs.AreaLaws.{bit_back}
 use Rattle.area.specs.Numbers.{stored}
 use Rattle.affine.specs.Affine.{affine_at}
-use Rattle.value_orders.specs.DoublingLaws.{affine_bits, affine_signs, Doubled, front_bits, size_bits, doubled_front, doubled_all, doubled_long, more_room, doubles, doubled_more, turn_none, turn_some}
+use Rattle.value_orders.specs.DoublingLaws.{affine_bits, affine_signs, front_bits, size_bits, doubled_front, doubled_all, doubled_long, more_room, doubles, doubled_more, turn_none, turn_some}
 use Rattle.value_orders.proofs.signs.write_signs.Goals as goal
 use Rattle.value_orders.proofs.signs.write_signs.Goals.{then-u-h-eq0, else-u-h-eq0}
 

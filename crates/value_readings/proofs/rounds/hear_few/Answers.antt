@@ -3,7 +3,6 @@ use Prim.Native.Nat.{suc, ◌+◌, ◌-◌, ◌*◌, ◌/◌}
 use mathlib.Core.Path.{◌≡◌}
 use native.Mathlib.Omega.{arith}
 use lib.Pow.{pow_mono}
-use borrow.Author.Rules.{rules}
 use Rattle.value_readings.specs.LeafLaws.{together_four, together_one}
 use Rattle.value_readings.proofs.rounds.hear_few.Goals as goal
 

@@ -3,7 +3,6 @@ use Prim.Native.Nat.{ℕ}
 use mathlib.Core.Path.{◌≡◌, refl, sym, subst}
 use mathlib.Core.List.{List}
 use lib.IntN.{ℤ}
-use borrow.Author.Rules.{rules}
 use Rattle.told.specs.Told.{numbers_in}
 use Rattle.told.specs.declared.Verdict.{Verdict}
 use Rattle.steps.specs.Steps.{count_in, Voter}

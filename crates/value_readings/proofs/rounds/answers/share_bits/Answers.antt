@@ -2,7 +2,6 @@
 use Prim.Native.Nat.{ℕ, ◌+◌, ◌-◌, ◌*◌, ◌^◌}
 use mathlib.Core.Path.{◌≡◌, sym, subst}
 use native.Mathlib.Omega.{arith}
-use borrow.Author.Rules.{rules}
 use Rattle.confidences.specs.Values.{Projects}
 use Rattle.value_readings.specs.AnswerLaws.{bits_heard, share_asks, signs_asks}
 use Rattle.value_readings.proofs.rounds.answers.share_bits.Goals as goal

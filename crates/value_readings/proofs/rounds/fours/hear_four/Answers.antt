@@ -6,7 +6,6 @@ use mathlib.Core.List.{List}
 use native.Mathlib.Omega.{arith}
 use lib.IntN.{ℤ}
 use lib.Pow.{pow_mono}
-use borrow.Author.Rules.{rules}
 use Rattle.value_steps.specs.Shares.{four_words}
 use Rattle.value_readings.specs.LeafLaws.{Quad, quad_asks, quad_first, quad_leaf, quad_more, quad_read, quad_words}
 use Rattle.value_readings.proofs.rounds.fours.hear_four.Goals as goal

@@ -5,7 +5,6 @@ use mathlib.Core.Bool.{Bool, true, ◌&&◌}
 use mathlib.Core.List.{List}
 use native.Mathlib.Nat.{zero-add}
 use lib.IntN.{ℤ, pos, ◌+ℤ◌}
-use borrow.Author.Rules.{rules}
 use Rattle.words.specs.Sum.{total}
 use Rattle.words.specs.SumLaws.{both_true}
 use Rattle.words.specs.Written.{Written, written_as}

@@ -4,7 +4,6 @@ use mathlib.Core.Path.{◌≡◌}
 use native.Mathlib.Numerals.{add-one}
 use native.Mathlib.Omega.{arith}
 use lib.Pow.{pow_mono}
-use borrow.Author.Rules.{rules}
 use Rattle.value_readings.specs.LeafLaws.{one_asks, one_leaf, one_more}
 use Rattle.value_readings.specs.PollLaws.{poll_projects, polled_none}
 use Rattle.value_readings.proofs.rounds.leaves.hear.Goals as goal
