@@ -1,5 +1,4 @@
 -- Calls on arrays: what is accepted, clean arrays, the leaf sum, and two calls on arrays that differ by an array of codewords. Assumes nothing.
--- ---- the limits
 use Prim.Native.Nat.{ℕ, ◌+◌, ◌*◌, ◌/◌, ◌%◌, ◌^◌, ◌≤◌, ◌<◌, max, min}
 use Rattle.std.specs.Prelude.{◌≡◌, Bool, cond, length}
 use Rattle.std.proofs.Math.Path.{refl, ap}
@@ -23,6 +22,8 @@ use Rattle.arrays.proofs.ArrayLaws.{array_of_test, array_read_add, column_of, co
 use Rattle.arrays.specs.IsSide.{IsSide}
 use Rattle.arrays.proofs.Lines.{leaves_clean, leaves_most, left_clean}
 use Rattle.arrays.specs.ArraySizes.{Passed, RightArray, Sound}
+
+-- ---- the limits
 
 pub side_passed : (m r : ℕ) (cs : List Check) → first_refusal (side_checks m r ++ cs) ≡ 0 → IsSide m r × (first_refusal cs ≡ 0)
 side_passed m r cs e =

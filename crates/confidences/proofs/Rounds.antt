@@ -1,6 +1,5 @@
 -- Blocks of values, and the rounds of a reading step by step: projections, what directions add, new values, counts, and how a reading ends.
 -- Assumes nothing.
--- ---- values of exponent m
 use Prim.Native.Nat.{ℕ, zero, suc, ◌+◌, ◌-◌, ◌^◌, ◌≤◌, ◌<◌}
 use Rattle.std.specs.Prelude.{◌≡◌, Bool, cond, List, eqb, ℤ, pos, nat_abs, ◌+ℤ◌}
 use Rattle.std.proofs.Math.Path.{refl}
@@ -23,6 +22,8 @@ use Rattle.words.proofs.WordLaws.{word_tabulate}
 use Rattle.confidences.specs.Confidences.{abstained, cut, ended, joint, leaves_after, lowest_zero, project_values, read, reading, round_leaves, share, signs_of, sums, updated, values_after, zero_place}
 use Rattle.confidences.specs.Blocks.{IsBlock, Nonzero}
 use Rattle.confidences.specs.FirstDirections.{abstained_to, leaves_to, sums_to}
+
+-- ---- values of exponent m
 
 pub block_ext : {m : ℕ} {x y : List ℤ} → IsBlock m x → IsBlock m y → ((p : ℕ) → p < 2 ^ m → at x p ≡ at y p) → x ≡ y
 block_ext {m} {x} {y} hx hy h = ext_get_or (pos 0) x y (hx.size ∙ sym hy.size) (λ p l. h p (omega (arith, hx.size)))
