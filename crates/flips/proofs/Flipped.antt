@@ -1,16 +1,14 @@
 -- What a flip does to a place. Assumes nothing.
 use Prim.Native.Nat.{ℕ, ◌+◌, ◌-◌, ◌*◌, ◌%◌, ◌≤◌, ◌<◌}
 use mathlib.Core.Path.{◌≡◌, refl, ap}
-use mathlib.Core.Bool.{Bool, true, false, ◌&&◌}
+use mathlib.Core.Bool.{Bool, true, false}
 use mathlib.Core.List.{List}
-use native.Mathlib.Numerals.{add-one}
 use lib.Bits.{bit_xor}
 use lib.Dec.{eqb}
 use lib.IntN.{ℤ, pos, nat_abs}
 use mir.Syntax.{w32}
 use mir.Val.{to_z, of_z}
 use borrow.Author.Tests.{lt-ltb, le-ltb}
-use Rattle.words.specs.Sum.{total, all_below}
 use Rattle.words.specs.Word.{bit, indicator}
 use Rattle.area.specs.Area.{at, IsBit, zero_bit, one_bit, word_of}
 use Rattle.rule.specs.Reading.{flipped}
@@ -38,7 +36,3 @@ flipped_bit zero_bit true = refl
 flipped_bit zero_bit false = refl
 flipped_bit one_bit true = refl
 flipped_bit one_bit false = refl
-
-pub all_more : (n : ℕ) (f : ℕ → Bool) → all_below n f && f n ≡ all_below (n + 1) f
-unfolding total
-all_more n f = rw add-one

@@ -3,15 +3,14 @@ use Prim.Native.Nat.{ℕ, ◌+◌, ◌*◌, ◌≤◌}
 use mathlib.Core.Path.{◌≡◌, refl, ap, ap₂, ◌∙◌}
 use mathlib.Core.Bool.{Bool, true, false}
 use mathlib.Core.List.{List}
-use native.Mathlib.Nat.{add-le-add}
-use native.Mathlib.Numerals.{add-one}
 use native.Mathlib.Omega.{arith}
 use lib.Dec.{eqb}
 use lib.IntN.{ℤ}
 use mir.Val.{bool_byte}
-use Rattle.words.specs.Sum.{total, sum_below}
+use Rattle.words.specs.Sum.{sum_below}
 use Rattle.words.specs.SumLaws.{sum_most}
 use Rattle.words.specs.Word.{indicator}
+use Rattle.words.proofs.WordLaws.{indicator-lt}
 use Rattle.area.specs.Area.{at}
 use Rattle.area.specs.Numbers.{stored}
 use Rattle.quads.specs.Quads.{sum_size, difference_size, Bounded}
@@ -21,16 +20,12 @@ byte_is : (t : Bool) → bool_byte t ≡ indicator t
 byte_is true = refl
 byte_is false = refl
 
-indicator_most : (t : Bool) → indicator t ≤ 1
-indicator_most true = omega arith
-indicator_most false = omega arith
-
 module _ (g : ℕ) where
   abbrev pub hits : ℤ → ℕ
   hits z = indicator (eqb (sum_size z) g) + indicator (eqb (difference_size z) g)
 
   pub hits_most : (z : ℤ) → hits z ≤ 2
-  hits_most z = add-le-add (indicator_most (eqb (sum_size z) g)) (indicator_most (eqb (difference_size z) g))
+  hits_most z = omega (arith, indicator-lt (eqb (sum_size z) g), indicator-lt (eqb (difference_size z) g))
 
   hit_is : {x y : ℕ} → x ≡ y → bool_byte (eqb x g) ≡ indicator (eqb y g)
   hit_is {x} e = byte_is (eqb x g) ∙ ap (λ (n : ℕ). indicator (eqb n g)) e
@@ -46,7 +41,3 @@ hits_at xs g i = hits g (at xs i)
 
 pub hits_few : (xs : List ℤ) (g i : ℕ) → sum_below i (hits_at xs g) ≤ i * 2
 hits_few xs g i = sum_most i 2 (hits_at xs g) (λ j l. hits_most g (at xs j))
-
-pub hits_more : (xs : List ℤ) (g i : ℕ) → sum_below (i + 1) (hits_at xs g) ≡ sum_below i (hits_at xs g) + hits_at xs g i
-unfolding total
-hits_more xs g i = rw add-one

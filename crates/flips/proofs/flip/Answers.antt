@@ -14,7 +14,8 @@ use Rattle.area.proofs.AreaLaws.{bit-word_of}
 use Rattle.area.specs.Numbers.{stored, stored-eq}
 use Rattle.rule.specs.Reading.{flipped}
 use Rattle.flips.specs.Flips.{flip_of}
-use Rattle.flips.proofs.Flipped.{still, flips, stays, flipped_bit, all_more}
+use Rattle.words.specs.SumLaws.{all_more}
+use Rattle.flips.proofs.Flipped.{still, flips, stays, flipped_bit}
 use Rattle.flips.proofs.flip.Goals as goal
 use Rattle.flips.proofs.flip.Goals.{then-voters-area, else-voters-area}
 
@@ -66,7 +67,7 @@ loop-p-preserved c =
     (flipped_bit (b.bits l.p under) (flipped (nat_abs (at xs (n + l.p))) (n - 1) c.args.abstained))) in (
       omega arith,
       more,
-      rw (l.invariant.2, flip_is) (all_more l.p (still n c.args.abstained xs)),
+      rw (l.invariant.2, flip_is) (all_more l.p (still n c.args.abstained xs) _ refl),
     )
 
 pub returns : goal.returns

@@ -7,7 +7,8 @@ use Rattle.words.specs.Sum.{total, sum_below}
 use Rattle.area.specs.Area.{at}
 use Rattle.keys.specs.Keys.{count_of}
 use Rattle.keys.proofs.Sizes.{quad_held}
-use Rattle.keys.proofs.Hits.{hits_at, hits_most, hits_are, hits_few, hits_more}
+use Rattle.words.specs.SumLaws.{sum_more}
+use Rattle.keys.proofs.Hits.{hits_at, hits_most, hits_are, hits_few}
 use Rattle.keys.proofs.count_of.Goals as goal
 
 pub loop-i-init : goal.loop-i-init
@@ -37,7 +38,7 @@ pub loop-i-preserved : goal.loop-i-preserved
 loop-i-preserved c =
     let added = hits_are c.args.g (c.requires.each c.loop-i.i (omega arith)) c.sizes_of-b.ensures in
     let l = c.loop-i in
-    (omega arith, ap₂ ◌+◌ l.invariant.1 (added) ∙ sym (hits_more c.args.quads.now c.args.g l.i))
+    (omega arith, ap₂ ◌+◌ l.invariant.1 (added) ∙ sym (sum_more l.i (hits_at c.args.quads.now c.args.g)))
 
 pub returns : goal.returns
 unfolding count_of

@@ -20,10 +20,6 @@ overflow_add-s c =
     let d : Summed c.args.n c.args.area.now c.loop-p.p c.loop-p.s-bits = rw (of_z-to_z c.loop-p.auto.s) at c.loop-p.invariant in
     summed_fits c.requires.0 c.requires.1 d c.loop-p-test.true
 
-pub loop-p-smaller : goal.loop-p-smaller
-loop-p-smaller c =
-    omega arith
-
 pub loop-p-preserved : goal.loop-p-preserved
 loop-p-preserved c =
     let d : Summed c.args.n c.args.area.now c.loop-p.p c.loop-p.s-bits = rw (of_z-to_z c.loop-p.auto.s) at c.loop-p.invariant in

@@ -33,10 +33,6 @@ joint-requires c =
     let l = c.loop-q in
     pair_asks c.requires (coset) l.area (λ j k. l.invariant.1.below j (omega arith))
 
-pub loop-q-smaller : goal.loop-q-smaller
-loop-q-smaller c =
-    omega arith
-
 pub loop-q-preserved : goal.loop-q-preserved
 loop-q-preserved c =
     let coset : Members c.args.m c.args.b c.loop-q.q c.insert_zero-p.result = members c.requires.direction (omega arith) c.highest_bit-h.ensures.0 c.insert_zero-p.ensures.0 in

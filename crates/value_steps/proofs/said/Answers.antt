@@ -1,4 +1,5 @@
 -- `value_steps::said` meets its contract. Assumes nothing.
+use Rattle.std.proofs.Common.{arith}
 use Rattle.value_steps.proofs.ValueReads.{turned_asks, turned_is}
 use Rattle.value_steps.proofs.said.Goals as goal
 
@@ -8,4 +9,4 @@ turned-requires c =
 
 pub returns : goal.returns
 returns c =
-    turned_is c.requires c.s-1.given c.turned.ensures
+    turned_is c.requires (omega arith) c.turned.ensures

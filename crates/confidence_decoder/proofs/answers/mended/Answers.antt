@@ -37,7 +37,7 @@ overflow_add-d c =
     let received : let p = c.loop-p.p in
     c.bit_of.result ≡ bit (signs_of c.args.m c.args.values.now) p = let x = c.args.values.now in
     let p = c.loop-p.p in
-    c.bit_of.ensures ∙ ap constant_of (sixteen-eq (at x p) c.bit_of-arg-1.given) ∙ sym (bit_signs c.args.m x p (omega arith)) in
+    c.bit_of.ensures ∙ ap constant_of (sixteen-eq (at x p) (omega arith)) ∙ sym (bit_signs c.args.m x p (omega arith)) in
     let added : let p = c.loop-p.p in
     bit_xor c.bit_of.result (bit c.args.word.now p) ≡ differs (signs_of c.args.m c.args.values.now) c.args.word.now p = let p = c.loop-p.p in
     ap (λ (y : ℕ). bit_xor y (bit c.args.word.now p)) (received)
@@ -59,7 +59,7 @@ loop-p-preserved c =
     let received : let p = c.loop-p.p in
     c.bit_of.result ≡ bit (signs_of c.args.m c.args.values.now) p = let x = c.args.values.now in
     let p = c.loop-p.p in
-    c.bit_of.ensures ∙ ap constant_of (sixteen-eq (at x p) c.bit_of-arg-1.given) ∙ sym (bit_signs c.args.m x p (omega arith)) in
+    c.bit_of.ensures ∙ ap constant_of (sixteen-eq (at x p) (omega arith)) ∙ sym (bit_signs c.args.m x p (omega arith)) in
     let added : let p = c.loop-p.p in
     bit_xor c.bit_of.result (bit c.args.word.now p) ≡ differs (signs_of c.args.m c.args.values.now) c.args.word.now p = let p = c.loop-p.p in
     ap (λ (y : ℕ). bit_xor y (bit c.args.word.now p)) (received)

@@ -11,7 +11,7 @@ loop-i-init c =
 
 pub overflow_cast-area : goal.overflow_cast-area
 overflow_cast-area c =
-    sixteen_fits (at c.args.values.now c.loop-i.i) c.area-1.given
+    sixteen_fits (at c.args.values.now c.loop-i.i) (omega arith)
 
 pub loop-i-smaller : goal.loop-i-smaller
 loop-i-smaller c =
@@ -19,7 +19,7 @@ loop-i-smaller c =
 
 pub loop-i-preserved : goal.loop-i-preserved
 loop-i-preserved c =
-    (omega arith, written_more c.loop-i.invariant.1 _ _ (omega arith) (omega arith) (sixteen-stored _ c.area-1.given))
+    (omega arith, written_more c.loop-i.invariant.1 _ _ (omega arith) (omega arith) (sixteen-stored _ (omega arith)))
 
 pub returns : goal.returns
 returns c =

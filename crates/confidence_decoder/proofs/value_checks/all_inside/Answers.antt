@@ -22,7 +22,7 @@ pub loop-p-preserved : goal.loop-p-preserved
 loop-p-preserved c =
     let l = c.loop-p in
     let z = at c.args.values.now l.p in
-    (refl, omega arith, ap (λ (y : Bool). l.all && y) (inside_test z c.x-1.given) ∙ all_more l.p _ l.all l.invariant.2)
+    (refl, omega arith, ap (λ (y : Bool). l.all && y) (inside_test z (omega arith)) ∙ all_more l.p _ l.all l.invariant.2)
 
 pub returns : goal.returns
 returns c =

@@ -21,13 +21,13 @@ pub returns-then-x-ltminus2047 : goal.returns-then-x-ltminus2047
 returns-then-x-ltminus2047 c =
     let l = c.loop-p in
     outside_found _ _ (omega arith) l.invariant.1
-    (λ h. under (at c.args.values.now l.p) c.x-1.given c.if-x-ltminus2047.true)
+    (λ h. under (at c.args.values.now l.p) (omega arith) c.if-x-ltminus2047.true)
 
 pub returns-then-x-gt2047 : goal.returns-then-x-gt2047
 returns-then-x-gt2047 c =
     let l = c.loop-p in
     outside_found _ _ (omega arith) l.invariant.1
-    (λ h. over (at c.args.values.now l.p) c.x-1.given c.if-x-gt2047.true)
+    (λ h. over (at c.args.values.now l.p) (omega arith) c.if-x-gt2047.true)
 
 pub loop-p-smaller : goal.loop-p-smaller
 loop-p-smaller c =
@@ -37,7 +37,7 @@ pub loop-p-preserved : goal.loop-p-preserved
 loop-p-preserved c =
     let l = c.loop-p in
     let z = at c.args.values.now l.p in
-    (omega arith, below_more _ _ l.invariant.1 (inside z c.x-1.given c.if-x-ltminus2047.false c.if-x-gt2047.false))
+    (omega arith, below_more _ _ l.invariant.1 (inside z (omega arith) c.if-x-ltminus2047.false c.if-x-gt2047.false))
 
 pub returns : goal.returns
 returns c =

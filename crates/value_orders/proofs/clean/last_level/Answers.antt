@@ -33,10 +33,6 @@ pub bounds-part-h-in-loop-i : goal.bounds-part-h-in-loop-i
 bounds-part-h-in-loop-i c =
     omega (arith, c.requires.1.room)
 
-pub loop-i-smaller : goal.loop-i-smaller
-loop-i-smaller c =
-    omega arith
-
 pub loop-i-preserved : goal.loop-i-preserved
 loop-i-preserved c =
     let l = c.loop-i in

@@ -14,10 +14,6 @@ pub loop-k-init : goal.loop-k-init
 loop-k-init c =
     (c.requires.first_le_m.0, c.requires.part_value)
 
-pub size-requires : goal.size-requires
-size-requires c =
-    omega arith
-
 pub repeats-requires : goal.repeats-requires
 repeats-requires c =
     let k = c.loop-k.k in
@@ -30,14 +26,6 @@ returns-then-not-repeats c =
     let level : c.repeats.result ≡ repeats (sign_at c.args.part.now) (2 ^ c.loop-k.k) = c.repeats.ensures ∙ ap (repeats _) c.size.ensures in
     let failed = sym (level) ∙ c.if-not-repeats.true in
     sym (levels_stop _ c.args.m c.loop-k.k (omega arith) failed)
-
-pub overflow_add-k : goal.overflow_add-k
-overflow_add-k c =
-    omega arith
-
-pub loop-k-smaller : goal.loop-k-smaller
-loop-k-smaller c =
-    omega arith
 
 pub loop-k-preserved : goal.loop-k-preserved
 loop-k-preserved c =

@@ -19,10 +19,6 @@ pub bounds-part-i : goal.bounds-part-i
 bounds-part-i c =
     omega (arith, c.requires.room)
 
-pub loop-i-smaller : goal.loop-i-smaller
-loop-i-smaller c =
-    omega arith
-
 pub loop-i-preserved : goal.loop-i-preserved
 loop-i-preserved c =
     let l = c.loop-i in

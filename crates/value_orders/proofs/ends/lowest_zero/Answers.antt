@@ -14,16 +14,12 @@ loop-p-init c =
 pub returns-then-area-p-eq0 : goal.returns-then-area-p-eq0
 returns-then-area-p-eq0 c =
     let z = at c.args.area.now c.loop-p.p in
-    found_here c.loop-p.invariant.1 c.loop-p-test.true (sym (zero_test z c.t7-1.given) ∙ eq-eqb _ 0 c.if-area-p-eq0.true)
-
-pub loop-p-smaller : goal.loop-p-smaller
-loop-p-smaller c =
-    omega arith
+    found_here c.loop-p.invariant.1 c.loop-p-test.true (sym (zero_test z (omega arith)) ∙ eq-eqb _ 0 c.if-area-p-eq0.true)
 
 pub loop-p-preserved : goal.loop-p-preserved
 loop-p-preserved c =
     let z = at c.args.area.now c.loop-p.p in
-    (omega arith, passed_more c.loop-p.invariant.1 (sym (zero_test z c.t7-1.given) ∙ ne_eqb _ 0 c.if-area-p-eq0.false))
+    (omega arith, passed_more c.loop-p.invariant.1 (sym (zero_test z (omega arith)) ∙ ne_eqb _ 0 c.if-area-p-eq0.false))
 
 pub returns : goal.returns
 returns c =

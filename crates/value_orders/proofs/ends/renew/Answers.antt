@@ -12,10 +12,6 @@ pub cut-requires : goal.cut-requires
 cut-requires c =
     sum_small c.requires.1 c.loop-p.invariant.1 c.loop-p-test.true
 
-pub loop-p-smaller : goal.loop-p-smaller
-loop-p-smaller c =
-    omega arith
-
 pub loop-p-preserved : goal.loop-p-preserved
 loop-p-preserved c =
     let l = c.loop-p in (

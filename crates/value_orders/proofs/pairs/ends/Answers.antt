@@ -77,10 +77,6 @@ overflow_sub-down c =
     let down-small : c.loop-i.down-bits < 512 = omega (arith, down-at) in
     down_fits (down-small)
 
-pub loop-i-smaller : goal.loop-i-smaller
-loop-i-smaller c =
-    omega arith
-
 pub loop-i-preserved : goal.loop-i-preserved
 loop-i-preserved c =
     let size-at : let n = pair_sizes c.args.h c.args.part.now c.loop-i.i in (c.size_of-x.result ≡ pos n) × (n < 2 ^ 21) = let k = c.requires in

@@ -9,10 +9,6 @@ pub loop-i-init : goal.loop-i-init
 loop-i-init c =
     (omega arith, refl, written_none _ _ _ _)
 
-pub loop-i-smaller : goal.loop-i-smaller
-loop-i-smaller c =
-    omega arith
-
 pub loop-i-preserved : goal.loop-i-preserved
 loop-i-preserved c =
     let l = c.loop-i in

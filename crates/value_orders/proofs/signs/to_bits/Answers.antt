@@ -15,18 +15,13 @@ pub loop-p-init : goal.loop-p-init
 loop-p-init c =
     (omega arith, written_none _ _ _ _)
 
-pub loop-p-smaller : goal.loop-p-smaller
-loop-p-smaller c =
-    omega arith
-
 pub loop-p-preserved : goal.loop-p-preserved
 loop-p-preserved c =
     let l = c.loop-p in
     let z = at l.area l.p in
-    let fits = c.t9-1.given in
     let sign_read : to_z w32 c.if-area-p-lt0.area-bits ≡ pos (constant_of z) = elim c.if-area-p-lt0.branch [
-      | then-area-p-lt0 w ↦ w.area-is ∙ ap pos (sym (sign_taken z fits w.if-area-p-lt0.true))
-      | else-area-p-lt0 w ↦ w.area-is ∙ ap pos (sym (sign_left z fits w.if-area-p-lt0.false))
+      | then-area-p-lt0 w ↦ w.area-is ∙ ap pos (sym (sign_taken z (omega arith) w.if-area-p-lt0.true))
+      | else-area-p-lt0 w ↦ w.area-is ∙ ap pos (sym (sign_left z (omega arith) w.if-area-p-lt0.false))
     ] in
     (omega arith, written_more l.invariant.1 _ _ (omega arith) (omega arith) (sign_read ∙ ap (λ (y : ℤ). pos (constant_of y)) (l.invariant.1.above l.p (omega arith))))
 

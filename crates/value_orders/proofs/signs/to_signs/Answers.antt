@@ -16,10 +16,6 @@ overflow_sub-part c =
     let ahead : at c.loop-p.part c.loop-p.p ≡ at c.args.part.now c.loop-p.p = c.loop-p.invariant.1.above c.loop-p.p (omega arith) in
     turned_fits (bit_at) (ahead)
 
-pub loop-p-smaller : goal.loop-p-smaller
-loop-p-smaller c =
-    omega arith
-
 pub loop-p-preserved : goal.loop-p-preserved
 loop-p-preserved c =
     let bit_at : IsBit (at c.args.part.now c.loop-p.p) = c.requires.bits c.loop-p.p (omega arith) in

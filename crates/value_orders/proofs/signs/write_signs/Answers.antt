@@ -82,10 +82,6 @@ overflow_add-h c =
     let more : c.loop-h.h + c.loop-h.h ≤ length c.args.part.now = more_room c.loop-h.invariant.1 c.requires.2 (omega arith) in
     omega (arith, more)
 
-pub loop-h-smaller : goal.loop-h-smaller
-loop-h-smaller c =
-    omega arith
-
 pub loop-h-preserved : goal.loop-h-preserved
 loop-h-preserved c =
     let more : c.loop-h.h + c.loop-h.h ≤ length c.args.part.now = more_room c.loop-h.invariant.1 c.requires.2 (omega arith) in
