@@ -16,10 +16,6 @@ loop-i-preserved c =
     let w = written_more c.loop-i.invariant.3 c.loop-i.i 0 (omega arith) (omega arith) refl in
     (refl, omega arith, w.long, w)
 
-pub shape_of-s : goal.shape_of-s
-shape_of-s c =
-    omega arith
-
 pub returns : goal.returns
 returns c =
     let a = c.args in

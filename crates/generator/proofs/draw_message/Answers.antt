@@ -8,21 +8,9 @@ pub loop-i-init : goal.loop-i-init
 loop-i-init c =
     (progress_none _ _, search rules)
 
-pub overflow_cast-message : goal.overflow_cast-message
-overflow_cast-message c =
-    omega arith
-
 pub bounds-message-i : goal.bounds-message-i
 bounds-message-i c =
     omega (arith, c.loop-i.invariant.0.written.long)
-
-pub overflow_step-i : goal.overflow_step-i
-overflow_step-i c =
-    omega arith
-
-pub loop-i-smaller : goal.loop-i-smaller
-loop-i-smaller c =
-    omega arith
 
 pub loop-i-preserved : goal.loop-i-preserved
 loop-i-preserved c =

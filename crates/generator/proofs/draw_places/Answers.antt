@@ -26,14 +26,6 @@ draw_place-p-requires c =
     let size = c.size-n.ensures in
     (omega (arith, size, pow_pos c.args.m), t.long ∙ sym size, turns_holds t)
 
-pub overflow_add-i : goal.overflow_add-i
-overflow_add-i c =
-    omega arith
-
-pub loop-i-smaller : goal.loop-i-smaller
-loop-i-smaller c =
-    omega arith
-
 pub loop-i-preserved : goal.loop-i-preserved
 loop-i-preserved c =
     turns_more c.loop-i.invariant (omega arith) (omega arith) c.draw_place-p.auto.noise c.draw_place-p.ensures

@@ -7,10 +7,6 @@ pub zero_order-requires : goal.zero_order-requires
 zero_order-requires c =
     let p = c.requires in (p.small, p.values)
 
-pub unnamed-requires : goal.unnamed-requires
-unnamed-requires c =
-    tt
-
 pub shape_of-area-then-r-eq0 : goal.shape_of-area-then-r-eq0
 shape_of-area-then-r-eq0 c =
     c.zero_order.auto.area
@@ -19,10 +15,6 @@ pub returns-then-r-eq0 : goal.returns-then-r-eq0
 returns-then-r-eq0 c =
     read_zero _ _ _ _ _ _ c.if-r-eq0.true c.unnamed.ensures c.zero_order.ensures
 
-pub unnamed-requires-then-left-eq0 : goal.unnamed-requires-then-left-eq0
-unnamed-requires-then-left-eq0 c =
-    tt
-
 pub returns-then-left-eq0 : goal.returns-then-left-eq0
 returns-then-left-eq0 c =
     read_none _ _ _ _ _ _ c.if-r-eq1.true c.if-left-eq0.true c.unnamed-then-left-eq0.ensures
@@ -30,10 +22,6 @@ returns-then-left-eq0 c =
 pub first_order-requires : goal.first_order-requires
 first_order-requires c =
     let p = c.requires in (p.some, p.small, p.values)
-
-pub unnamed-requires-then-r-eq1 : goal.unnamed-requires-then-r-eq1
-unnamed-requires-then-r-eq1 c =
-    tt
 
 pub shape_of-area-then-r-eq1 : goal.shape_of-area-then-r-eq1
 shape_of-area-then-r-eq1 c =

@@ -26,35 +26,11 @@ overflow_add-sum c =
     let one : c.decode_column-c.result.leaves ≤ c.args.leaves = rw c.decode_column-c.ensures.count (leaves_most _ _ _ _ _) in
     record { fits = omega (arith, leaves_few l.6 l.7 l.1, l.6.reads.limits.leaves_most) }
 
-pub overflow_step-j : goal.overflow_step-j
-overflow_step-j c =
-    omega arith
-
-pub loop-j-smaller : goal.loop-j-smaller
-loop-j-smaller c =
-    omega arith
-
 pub loop-j-preserved : goal.loop-j-preserved
 loop-j-preserved c =
     let l = c.loop-j.invariant in
     let done = columns_more l.6 l.7 l.0 (omega arith) c.decode_column-c.ensures in
     (l.0, omega arith, done.long, omega arith, omega arith, omega arith, l.6, done)
-
-pub shape_of-grid : goal.shape_of-grid
-shape_of-grid c =
-    omega arith
-
-pub shape_of-line : goal.shape_of-line
-shape_of-line c =
-    omega arith
-
-pub shape_of-left : goal.shape_of-left
-shape_of-left c =
-    omega arith
-
-pub shape_of-area : goal.shape_of-area
-shape_of-area c =
-    omega arith
 
 pub returns : goal.returns
 returns c =

@@ -20,27 +20,11 @@ pub bounds-grid-i : goal.bounds-grid-i
 bounds-grid-i c =
     c.loop-i.invariant.3.each c.loop-i.i (omega arith)
 
-pub bounds-line-i : goal.bounds-line-i
-bounds-line-i c =
-    omega arith
-
-pub overflow_step-i : goal.overflow_step-i
-overflow_step-i c =
-    omega arith
-
-pub loop-i-smaller : goal.loop-i-smaller
-loop-i-smaller c =
-    omega arith
-
 pub loop-i-preserved : goal.loop-i-preserved
 loop-i-preserved c =
     let l = c.loop-i in
     let w = written_more l.invariant.4 l.i _ (omega arith) (omega arith) refl in
     (refl, omega arith, w.long, l.invariant.3, w)
-
-pub shape_of-line : goal.shape_of-line
-shape_of-line c =
-    omega arith
 
 pub returns : goal.returns
 returns c =

@@ -9,10 +9,6 @@ pub loop-i-init : goal.loop-i-init
 loop-i-init c =
     (refl, omega arith, refl, c.requires.0, c.requires.1, scattered_none _ _ _ _)
 
-pub bounds-line-i : goal.bounds-line-i
-bounds-line-i c =
-    omega arith
-
 pub overflow_mul-grid : goal.overflow_mul-grid
 overflow_mul-grid c =
     omega (arith, c.loop-i.invariant.3.each c.loop-i.i (omega arith))
@@ -25,23 +21,11 @@ pub bounds-grid-i : goal.bounds-grid-i
 bounds-grid-i c =
     omega (arith, c.loop-i.invariant.3.each c.loop-i.i (omega arith))
 
-pub overflow_step-i : goal.overflow_step-i
-overflow_step-i c =
-    omega arith
-
-pub loop-i-smaller : goal.loop-i-smaller
-loop-i-smaller c =
-    omega arith
-
 pub loop-i-preserved : goal.loop-i-preserved
 loop-i-preserved c =
     let l = c.loop-i in
     let s = scattered_more l.invariant.5 l.invariant.4 (l.invariant.3.each l.i (omega arith)) in
     (refl, omega arith, s.long, l.invariant.3, l.invariant.4, s)
-
-pub shape_of-grid : goal.shape_of-grid
-shape_of-grid c =
-    omega arith
 
 pub returns : goal.returns
 returns c =

@@ -33,27 +33,11 @@ overflow_add-e c =
     row_within _ _ l.4.input l.0 _ (omega arith) in
     record { fits = omega (arith, within) }
 
-pub slice_bounds-has_order-count : goal.slice_bounds-has_order-count
-slice_bounds-has_order-count c =
-    omega arith
-
-pub slice_bounds-has_order-start : goal.slice_bounds-has_order-start
-slice_bounds-has_order-start c =
-    omega arith
-
 pub slice_bounds-has_order-end : goal.slice_bounds-has_order-end
 slice_bounds-has_order-end c =
     let within : c.loop-i.i * c.size-n.result + c.size-n.result ≤ length c.args.grid.now = let l = c.loop-i.invariant in
     row_within _ _ l.4.input l.0 _ (omega arith) in
     within
-
-pub slice_bounds-has_order-count-in-loop-i : goal.slice_bounds-has_order-count-in-loop-i
-slice_bounds-has_order-count-in-loop-i c =
-    omega arith
-
-pub slice_bounds-t-start : goal.slice_bounds-t-start
-slice_bounds-t-start c =
-    omega arith
 
 pub slice_bounds-t-end : goal.slice_bounds-t-end
 slice_bounds-t-end c =
@@ -69,14 +53,6 @@ pub returns-then-not-has_order : goal.returns-then-not-has_order
 returns-then-not-has_order c =
     let l = c.loop-i.invariant in
     tested_fails l.4 l.0 _ (omega arith) c.has_order.ensures c.if-not-has_order.true
-
-pub overflow_step-i : goal.overflow_step-i
-overflow_step-i c =
-    omega arith
-
-pub loop-i-smaller : goal.loop-i-smaller
-loop-i-smaller c =
-    omega arith
 
 pub loop-i-preserved : goal.loop-i-preserved
 loop-i-preserved c =

@@ -32,27 +32,11 @@ overflow_add-e c =
     row_within _ _ l.5.input l.0 _ (omega arith) in
     record { fits = omega (arith, within) }
 
-pub slice_bounds-decode_row-count : goal.slice_bounds-decode_row-count
-slice_bounds-decode_row-count c =
-    omega arith
-
-pub slice_bounds-decode_row-start : goal.slice_bounds-decode_row-start
-slice_bounds-decode_row-start c =
-    omega arith
-
 pub slice_bounds-decode_row-end : goal.slice_bounds-decode_row-end
 slice_bounds-decode_row-end c =
     let within : c.loop-i.i * c.size-n.result + c.size-n.result ≤ length c.args.word.now = let l = c.loop-i.invariant in
     row_within _ _ l.5.input l.0 _ (omega arith) in
     within
-
-pub slice_bounds-decode_row-count-in-loop-i : goal.slice_bounds-decode_row-count-in-loop-i
-slice_bounds-decode_row-count-in-loop-i c =
-    omega arith
-
-pub slice_bounds-decode_row-start-in-loop-i : goal.slice_bounds-decode_row-start-in-loop-i
-slice_bounds-decode_row-start-in-loop-i c =
-    omega arith
 
 pub slice_bounds-decode_row-end-in-loop-i : goal.slice_bounds-decode_row-end-in-loop-i
 slice_bounds-decode_row-end-in-loop-i c =
@@ -71,14 +55,6 @@ overflow_add-sum c =
     let one : c.decode_row-sum.result ≤ c.args.leaves = rw c.decode_row-sum.ensures.leaves (leaves_most _ _ _ _ _) in
     record { fits = omega (arith, sum_few l.5 l.6 l.2, l.5.reads.limits.leaves_most) }
 
-pub overflow_step-i : goal.overflow_step-i
-overflow_step-i c =
-    omega arith
-
-pub loop-i-smaller : goal.loop-i-smaller
-loop-i-smaller c =
-    omega arith
-
 pub loop-i-preserved : goal.loop-i-preserved
 loop-i-preserved c =
     let l = c.loop-i.invariant in
@@ -88,10 +64,6 @@ loop-i-preserved c =
 pub shape_of-grid : goal.shape_of-grid
 shape_of-grid c =
     omega (arith, ap length c.loop-i.invariant.5.copied)
-
-pub shape_of-area : goal.shape_of-area
-shape_of-area c =
-    omega arith
 
 pub returns : goal.returns
 returns c =

@@ -50,10 +50,6 @@ overflow_step-p c =
     let small : 2 ^ c.args.m ≤ 1024 = pow_mono {j = 10} c.requires.0 in
     record { fits = omega arith }
 
-pub loop-p-smaller : goal.loop-p-smaller
-loop-p-smaller c =
-    omega arith
-
 pub loop-p-preserved : goal.loop-p-preserved
 loop-p-preserved c =
     let received : let p = c.loop-p.p in

@@ -13,10 +13,6 @@ pub overflow_cast-area : goal.overflow_cast-area
 overflow_cast-area c =
     sixteen_fits (at c.args.values.now c.loop-i.i) (omega arith)
 
-pub loop-i-smaller : goal.loop-i-smaller
-loop-i-smaller c =
-    omega arith
-
 pub loop-i-preserved : goal.loop-i-preserved
 loop-i-preserved c =
     (omega arith, written_more c.loop-i.invariant.1 _ _ (omega arith) (omega arith) (sixteen-stored _ (omega arith)))

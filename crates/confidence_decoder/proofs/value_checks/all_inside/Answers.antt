@@ -14,10 +14,6 @@ pub loop-p-init : goal.loop-p-init
 loop-p-init c =
     (refl, omega arith, all_none _)
 
-pub loop-p-smaller : goal.loop-p-smaller
-loop-p-smaller c =
-    omega arith
-
 pub loop-p-preserved : goal.loop-p-preserved
 loop-p-preserved c =
     let l = c.loop-p in

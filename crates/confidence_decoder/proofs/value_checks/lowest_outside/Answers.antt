@@ -29,10 +29,6 @@ returns-then-x-gt2047 c =
     outside_found _ _ (omega arith) l.invariant.1
     (λ h. over (at c.args.values.now l.p) (omega arith) c.if-x-gt2047.true)
 
-pub loop-p-smaller : goal.loop-p-smaller
-loop-p-smaller c =
-    omega arith
-
 pub loop-p-preserved : goal.loop-p-preserved
 loop-p-preserved c =
     let l = c.loop-p in

@@ -22,10 +22,6 @@ loop-i-preserved c =
     let w = written_more c.loop-i.invariant.3 i _ (omega arith) (omega arith) (ap (bit_xor (bit word i)) (c.loop-i.invariant.3.above i (omega arith))) in
     (refl, omega arith, w.long, w)
 
-pub shape_of-out : goal.shape_of-out
-shape_of-out c =
-    omega arith
-
 pub returns : goal.returns
 returns c =
     let q = c.requires in

@@ -32,10 +32,6 @@ loop-k-preserved c =
     let w = written_more c.loop-k.invariant.3 k _ (omega arith) (omega arith) (c.octet.ensures ∙ eight-octet c.args.word.now k (omega (arith, c.requires.size))) in
     (refl, omega arith, w.long, w)
 
-pub shape_of-out : goal.shape_of-out
-shape_of-out c =
-    omega arith
-
 pub returns : goal.returns
 returns c =
     written_all c.loop-k.invariant.3 (omega arith) ∙ packed_is c.args.word.now (omega (arith, c.requires.size))

@@ -29,10 +29,6 @@ pub loop-used-init : goal.loop-used-init
 loop-used-init c =
     (omega arith, (λ h. absurd (omega arith)), polled_none (poll_first (leaf c.args.m) c.requires c.clear.ensures).poll)
 
-pub next_few-few-requires : goal.next_few-few-requires
-next_few-few-requires c =
-    tt
-
 pub overflow_sub-left : goal.overflow_sub-left
 overflow_sub-left c =
     c.loop-used.invariant.0
