@@ -22,6 +22,7 @@ fn by_place(a: &mut [i32], u: usize, s: i32)
     requires { IsBit s × (u < 2 ^ 32) }
     ensures { a.new ≡ tabulate (length a.old) (affine_at u s) }
 {
+    // By index: the place counts.
     for p in 0..a.len() {
         a[p] = s ^ parity(u & p);
     }
@@ -63,11 +64,10 @@ pub fn write_affine(a: &mut [i32], u: usize, s: i32)
     by_place(&mut a[0..4], u, s);
     repeat_four(a, 0, 4, parity(u & 4));
     repeat_eight(a, 0, 8, parity(u & 8));
-    let mut b = 16;
-    while b != n {
+    for k in 1..n / 16 {
+        let b = 16 * k;
         let t = parity(u & b);
         repeat_eight(a, 0, b, t);
         repeat_eight(a, 8, b + 8, t);
-        b += 16;
     }
 }

@@ -5,7 +5,7 @@ use mathlib.Core.List.{List}
 use lib.ListN.{length}
 use lib.IntN.{ℤ}
 use Rattle.words.specs.Word.{add_words}
-use Rattle.refusals.specs.declared.Decoded.{Decoded}
+use Rattle.refusals.specs.Refusals.{Decoded}
 use Rattle.profiles.specs.Profiles.{profile_of}
 use Rattle.rule.specs.Reading.{Outcome}
 use Rattle.rule.specs.Decoding.{number_in, decode_call, decode_profile_call}

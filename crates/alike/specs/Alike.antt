@@ -1,7 +1,7 @@
 -- Demand 3, of two calls of the decoder: document 01, "Agreement on contracts". Assumes nothing.
 use Rattle.std.specs.Prelude.{ℕ, ◌*◌, ◌^◌, ◌≤◌, ◌≡◌, List, length, ℤ}
 use Rattle.words.specs.Word.{IsWord, add_words}
-use Rattle.refusals.specs.declared.Decoded.{Decoded}
+use Rattle.refusals.specs.Refusals.{Decoded}
 use Rattle.code.specs.Code.{IsCodeword}
 use Rattle.rule.specs.Decoding.{number_in}
 use Rattle.rule.specs.Calls.{values_of}

@@ -2,8 +2,7 @@
 use Rattle.std.specs.Prelude.{ℕ, ◌+◌, ◌*◌, ◌^◌, ◌≤◌, max, ◌≡◌, List, length, ℤ}
 use Rattle.words.specs.Word.{IsWord, add_words}
 use Rattle.arrays.specs.Arrays.{IsArray}
-use Rattle.array_decoder.specs.declared.ArrayDecoded.{ArrayDecoded}
-use Rattle.array_decoder.specs.Calls.{array_leaves, array_number}
+use Rattle.array_decoder.specs.Calls.{ArrayDecoded, array_leaves, array_number}
 
 -- "Arrays differing by such an array of codewords": their sum is that array
 pub record DifferArrays (mr rr mc rc : ℕ) (w w' : List ℕ) : Type 0 where

@@ -8,9 +8,8 @@ use Rattle.rule.specs.Reading.{Outcome, accepted, leaves_of, refused}
 use Rattle.arrays.specs.ArraySizes.{RightArray, Sound}
 use Rattle.arrays.proofs.ArrayCalls.{arrays_alike, call_sound}
 use Rattle.arrays.specs.Arrays.{array_call}
-use Rattle.array_decoder.specs.declared.ArrayDecoded.{ArrayDecoded}
+use Rattle.array_decoder.specs.Calls.{ArrayDecoded, DecodesArray}
 use Rattle.array_decoder.specs.Alike.{AlikeArrays, DifferArrays, FitArray}
-use Rattle.array_decoder.specs.Calls.{DecodesArray}
 
 number_shift : (c : List ℕ) (o : Outcome) → refusal_of (shift c o) ≡ refusal_of o
 number_shift c (accepted d k l) = refl

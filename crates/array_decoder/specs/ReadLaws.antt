@@ -1,5 +1,5 @@
 -- A call that passed its checks: the rows, the columns, the test, and what is delivered. Assumes nothing.
-use Rattle.std.specs.Prelude.{ℕ, ◌+◌, ◌-◌, ◌*◌, ◌^◌, ◌≤◌, ◌≡◌, refl, Bool, true, false, cond, ◌&&◌, List, length, replicate, take, ℤ, pos}
+use Rattle.std.specs.Prelude.{ℕ, ◌+◌, ◌-◌, ◌*◌, ◌^◌, ◌≤◌, ◌≡◌, refl, Bool, true, false, cond, ◌&&◌, List, length, replicate, take, ℤ, pos, Ok, Err}
 use Rattle.std.proofs.Common.{sym, ap, ap₂, subst, ◌∙◌, mul-le-mul_left, arith, pow_mono}
 use Rattle.std.proofs.Math.Nat.{le-max_left, le-max_right}
 use Rattle.words.specs.Parts.{front_length}
@@ -11,15 +11,13 @@ use Rattle.rule.specs.Reading.{accepted, refused}
 use Rattle.arrays.proofs.ArrayCalls.{columns_most, rows_most}
 use Rattle.arrays.proofs.ArrayLaws.{columns_word, rows_word}
 use Rattle.arrays.specs.Arrays.{array_read, array_test, column_leaves, columns_left, row_leaves, rows_left, rows_test}
-use Rattle.array_decoder.specs.declared.ArrayDecoded.{ArrayDecoded}
-use Rattle.array_decoder.specs.declared.ArrayDecoded.TheVariants.{Accepted, Refused}
+use Rattle.array_decoder.specs.Calls.{ArrayDecoded, DecodesArray, array_leaves, array_number, array_place}
 use Rattle.array_lines.specs.declared.columns.Read.{Read}
 use Rattle.array_lines.specs.Asked.{ColumnsAsk, ColumnsRead, RowsAsk, TestAsks}
 use Rattle.array_decoder.specs.Asked.{CallAsks, LinesAsk, LinesRead}
-use Rattle.array_decoder.specs.Calls.{DecodesArray, array_leaves, array_number, array_place}
 
 -- what is delivered of an array u that passes the test or not
-by_test : (b : Bool) {word out out' : List ℕ} {area area' : List ℤ} {d : ArrayDecoded} (u : List ℕ) (l : ℕ) → d ≡ cond b (Accepted l) (Refused NotArray l) → out' ≡ cond b u out → area' ≡ zeros area
+by_test : (b : Bool) {word out out' : List ℕ} {area area' : List ℤ} {d : ArrayDecoded} (u : List ℕ) (l : ℕ) → d ≡ cond b (Ok l) (Err record { why = NotArray; leaves = l }) → out' ≡ cond b u out → area' ≡ zeros area
     → DecodesArray (cond b (accepted u 0 l) (refused 28 0 l)) word out out' area area' d
 by_test true {word} u l e o a = record {
   number = ap array_number e;
@@ -96,6 +94,6 @@ module _ {mr rr mc rc rounds leaves : ℕ} {w : List ℕ} {copy room area : ℕ}
     read_is et = rw (et, r.test, r.count, r.array)
 
     pub delivered : {t : Bool} {out out' : List ℕ} {ys ys' : List ℤ} {d : ArrayDecoded} (k : ℕ) → t ≡ rows_test mr mc rr u
-        → (d ≡ cond (t && c.codewords) (Accepted c.leaves) (Refused NotArray c.leaves)) × (out' ≡ cond (t && c.codewords) u out)
+        → (d ≡ cond (t && c.codewords) (Ok c.leaves) (Err record { why = NotArray; leaves = c.leaves })) × (out' ≡ cond (t && c.codewords) u out)
         → ys' ≡ replicate k (pos 0) → length ys ≡ k → DecodesArray (array_read mr rr mc rc rounds leaves w) w out out' ys ys' d
     delivered {t} k et e ea ek = rw (read_is et) (by_test (t && c.codewords) u c.leaves e.0 e.1 (ea ∙ ap (λ (n : ℕ). replicate n (pos 0)) (sym ek)))

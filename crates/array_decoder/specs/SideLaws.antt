@@ -1,13 +1,11 @@
 -- The checks of a call on an array: what each test on the way says. Assumes nothing.
-use Rattle.std.specs.Prelude.{ℕ, ◌+◌, ◌*◌, ◌^◌, ◌≤◌, ◌<◌, max, ◌≡◌, List, []}
+use Rattle.std.specs.Prelude.{ℕ, ◌+◌, ◌*◌, ◌^◌, ◌≤◌, ◌<◌, max, ◌≡◌, List, [], Ok}
 use Rattle.std.proofs.Common.{sym, ap, ◌∙◌, mul-le-mul, arith, pow-add, pow_mono, le-leb}
 use Rattle.std.proofs.Math.Decide.{dec_le}
 use Rattle.std.proofs.Math.Nat.{max-le}
 use Rattle.std.proofs.lemmas.Bool.{lt-leb}
 use Rattle.refusals.proofs.CheckLaws.{fails, passes}
-use Rattle.refusals.specs.Refusals.{Checked, answer_number, code_checks, first_refusal, place_named}
-use Rattle.refusals.specs.declared.Answer.{Answer}
-use Rattle.refusals.specs.declared.Answer.TheVariants.{Done}
+use Rattle.refusals.specs.Refusals.{Checked, answer_number, code_checks, first_refusal, place_named, Answer}
 use Rattle.arrays.specs.ArraySizes.{Passed}
 use Rattle.arrays.proofs.ArrayCalls.{all_passed}
 use Rattle.arrays.specs.Arrays.{array_limits, side_checks}
@@ -27,7 +25,7 @@ module _ (m r : ℕ) where
   pub side_checked : {s : List ℕ} {a : Answer} → (6 < m → m < 11 → ⊥) → Checked (code_checks m r) s a → Checked (side_checks m r) s a
   side_checked {s} h c = record { number = c.number ∙ side_same h; place = c.place ∙ ap (place_named s) (side_same h) }
 
-pub limits_done : (mr rr mc rc rounds leaves : ℕ) {s : List ℕ} {a : Answer} → Checked (array_limits mr rr mc rc rounds leaves) s a → a ≡ Done
+pub limits_done : (mr rr mc rc rounds leaves : ℕ) {s : List ℕ} {a : Answer} → Checked (array_limits mr rr mc rc rounds leaves) s a → a ≡ (Ok tt)
     → Passed mr rr mc rc rounds leaves
 limits_done mr rr mc rc rounds leaves c e = (all_passed mr rr mc rc rounds leaves [] (sym c.number ∙ ap answer_number e)).0
 

@@ -1,15 +1,14 @@
 -- One line read by the decoder. Assumes nothing.
-use Rattle.std.specs.Prelude.{ℕ, ◌^◌, ◌<◌, ◌≡◌, refl, true, List, length, ℤ}
+use Rattle.std.specs.Prelude.{ℕ, ◌^◌, ◌<◌, ◌≡◌, refl, true, List, length, ℤ, Ok, Err}
 use Rattle.std.proofs.Common.{sym, ap, ◌∙◌, arith}
 use Rattle.words.specs.Word.{IsWord, distance}
 use Rattle.words.proofs.WordLaws.{distance_none}
 use Rattle.code.specs.Code.{codeword_test}
 use Rattle.code.proofs.Codewords.{test_of_codeword}
 use Rattle.refusals.proofs.CheckLaws.{number_pos}
-use Rattle.refusals.specs.Refusals.{number_of}
-use Rattle.refusals.specs.declared.Decoded.{Decoded}
-use Rattle.refusals.specs.declared.Decoded.TheVariants.{Accepted, Refused}
-use Rattle.refusals.specs.declared.Refusal.{Refusal}
+use Rattle.refusals.specs.Refusals.{number_of, Decoded}
+use Rattle.refusals.specs.declared.Accepted.{Accepted}
+use Rattle.refusals.specs.declared.Refused.{Refused}
 use Rattle.rule.specs.Calls.{Decodes, values_of}
 use Rattle.rule.specs.Decoding.{Values, answer_of, output_of, values}
 use Rattle.rule.specs.Demand3.{Sound}
@@ -65,9 +64,9 @@ module _ {m r rounds leaves : ℕ} {line out out' : List ℕ} {area area' : List
   pub line_leaves : {x : Decoded} → d ≡ x → count_in (values_of x) ≡ leaves_of (line_read m r rounds leaves line)
   line_leaves e = ap (λ (y : Decoded). count_in (values_of y)) (sym e) ∙ ap count_in run.answer ∙ counted m line (line_read m r rounds leaves line)
 
-  pub line_taken : {k l c : ℕ} → d ≡ Accepted k l c → LineTaken m r line out (line_read m r rounds leaves line) c
-  line_taken {k} {l} {c} e =
-      taken m r line out k l c (line_read m r rounds leaves line) asks.input (ap values_of (sym e) ∙ run.answer) (line_sound m r rounds leaves asks.order line asks.input)
+  pub line_taken : {x : Accepted} → d ≡ Ok x → LineTaken m r line out (line_read m r rounds leaves line) x.mended
+  line_taken {x} e =
+      taken m r line out x.rounds x.leaves x.mended (line_read m r rounds leaves line) asks.input (ap values_of (sym e) ∙ run.answer) (line_sound m r rounds leaves asks.order line asks.input)
 
-  pub line_kept : {why : Refusal} {k l : ℕ} → d ≡ Refused why k l → line_left m r rounds leaves line ≡ line
-  line_kept {why} {k} {l} e = kept m line (number_of why) k l (number_pos why) (line_read m r rounds leaves line) (ap values_of (sym e) ∙ run.answer)
+  pub line_kept : {x : Refused} → d ≡ Err x → line_left m r rounds leaves line ≡ line
+  line_kept {x} e = kept m line (number_of x.why) x.rounds x.leaves (number_pos x.why) (line_read m r rounds leaves line) (ap values_of (sym e) ∙ run.answer)

@@ -7,13 +7,14 @@ ghost use Rattle.array_lines.specs.Asked.{ColumnAsks, ColumnRead, ColumnsAsk, Co
 ghost use Rattle.array_lines.specs.Scattered.{Scattered};
 
 use decoder::runs::run;
-use refusals::Decoded;
+use profiles::Profile;
 
 // The bytes of column j to line: rows have a places.
 fn gather(grid: &[u8], j: usize, a: usize, line: &mut [u8])
     requires { Inside j a (length line.old) (length grid.now) }
     ensures { line.new ≡ tabulate (length line.old) (λ i. bit grid.now (i * a + j)) }
 {
+    // By index: the places of a column stand a row apart.
     for i in 0..line.len() {
         line[i] = grid[i * a + j];
     }
@@ -24,8 +25,8 @@ fn scatter(line: &[u8], j: usize, a: usize, grid: &mut [u8])
     requires { Inside j a (length line.now) (length grid.old) × (0 < a) }
     ensures { Scattered line.now j a (length line.now) grid.old grid.new }
 {
-    for i in 0..line.len() {
-        grid[i * a + j] = line[i];
+    for (i, x) in line.iter().enumerate() {
+        grid[i * a + j] = *x;
     }
 }
 
@@ -52,7 +53,7 @@ fn test(sound: bool, m: usize, r: usize, line: &[u8], t: &mut [u8]) -> bool
 }
 
 // What reading columns tells: the leaf count, and whether all of them are now codewords.
-#[derive(Clone, Copy)]
+#[derive(Clone, Copy, Debug, PartialEq, Eq)]
 pub struct Read {
     pub leaves: usize,
     pub codewords: bool,
@@ -60,10 +61,7 @@ pub struct Read {
 
 // Decodes column j by way of two buffers of its length; a refused column stays. `sound` says whether the columns before it are codewords.
 fn decode_column(
-    m: usize,
-    r: usize,
-    rounds: usize,
-    leaves: usize,
+    code: Profile,
     j: usize,
     a: usize,
     sound: bool,
@@ -72,22 +70,22 @@ fn decode_column(
     left: &mut [u8],
     area: &mut [i32],
 ) -> Read
-    requires { ColumnAsks m r rounds leaves j a grid.old (length line.old) (length left.old) (length area.old) }
-    ensures { ColumnRead m r rounds leaves j a sound grid.old grid.new result }
+    requires { ColumnAsks code.m code.r code.rounds code.leaves j a grid.old (length line.old) (length left.old) (length area.old) }
+    ensures { ColumnRead code.m code.r code.rounds code.leaves j a sound grid.old grid.new result }
 {
     gather(grid, j, a, line);
-    let answer = run(m, r, rounds, leaves, line, left, area);
+    let answer = run(code.m, code.r, code.rounds, code.leaves, line, left, area);
     match answer {
-        Decoded::Accepted(_, l, mended) => {
-            put(mended, left, j, a, grid);
+        Ok(read) => {
+            put(read.mended, left, j, a, grid);
             Read {
-                leaves: l,
+                leaves: read.leaves,
                 codewords: sound,
             }
         }
-        Decoded::Refused(_, _, l) => Read {
-            leaves: l,
-            codewords: test(sound, m, r, line, left),
+        Err(refused) => Read {
+            leaves: refused.leaves,
+            codewords: test(sound, code.m, code.r, line, left),
         },
     }
 }
@@ -95,25 +93,20 @@ fn decode_column(
 // Decodes every column.
 fn decode_each(
     mr: usize,
-    mc: usize,
-    r: usize,
-    rounds: usize,
-    leaves: usize,
+    code: Profile,
     grid: &mut [u8],
     line: &mut [u8],
     left: &mut [u8],
     area: &mut [i32],
 ) -> Read
-    requires { ColumnsAsk mr mc r rounds leaves grid.old (length line.old) (length left.old) (length area.old) }
-    ensures { ColumnsRead mr mc r rounds leaves grid.old grid.new result }
+    requires { ColumnsAsk mr code.m code.r code.rounds code.leaves grid.old (length line.old) (length left.old) (length area.old) }
+    ensures { ColumnsRead mr code.m code.r code.rounds code.leaves grid.old grid.new result }
 {
     let a = words::size(mr);
     let mut sum = 0;
     let mut codewords = true;
     for j in 0..a {
-        let c = decode_column(
-            mc, r, rounds, leaves, j, a, codewords, grid, line, left, area,
-        );
+        let c = decode_column(code, j, a, codewords, grid, line, left, area);
         sum += c.leaves;
         codewords = c.codewords;
     }
@@ -139,15 +132,11 @@ pub fn decode_columns(
     let b = words::size(mc);
     let mut line = [0u8; 64];
     let mut left = [0u8; 64];
-    decode_each(
-        mr,
-        mc,
+    let code = Profile {
+        m: mc,
         r,
         rounds,
         leaves,
-        grid,
-        &mut line[0..b],
-        &mut left[0..b],
-        area,
-    )
+    };
+    decode_each(mr, code, grid, &mut line[0..b], &mut left[0..b], area)
 }

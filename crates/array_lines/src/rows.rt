@@ -7,26 +7,18 @@ ghost use Rattle.decoder.specs.Runs.{Runs};
 ghost use Rattle.array_lines.specs.Asked.{RowsAsk, TestAsks};
 
 use decoder::runs::run;
-use refusals::Decoded;
+use profiles::Profile;
 
 // Decodes a row into `left`, which a refused one leaves as it was. The leaf count.
-fn decode_row(
-    m: usize,
-    r: usize,
-    rounds: usize,
-    leaves: usize,
-    row: &[u8],
-    left: &mut [u8],
-    area: &mut [i32],
-) -> usize
-    requires { Runs m r rounds leaves row.now left.old area.old }
-    ensures left { left.new ≡ output_of (line_read m r rounds leaves row.now) left.old }
-    ensures leaves { result ≡ leaves_of (line_read m r rounds leaves row.now) }
+fn decode_row(code: Profile, row: &[u8], left: &mut [u8], area: &mut [i32]) -> usize
+    requires { Runs code.m code.r code.rounds code.leaves row.now left.old area.old }
+    ensures left { left.new ≡ output_of (line_read code.m code.r code.rounds code.leaves row.now) left.old }
+    ensures leaves { result ≡ leaves_of (line_read code.m code.r code.rounds code.leaves row.now) }
 {
-    let answer = run(m, r, rounds, leaves, row, left, area);
+    let answer = run(code.m, code.r, code.rounds, code.leaves, row, left, area);
     match answer {
-        Decoded::Accepted(_, l, _) => l,
-        Decoded::Refused(_, _, l) => l,
+        Ok(read) => read.leaves,
+        Err(refused) => refused.leaves,
     }
 }
 
@@ -45,12 +37,19 @@ pub fn decode_rows(
     ensures array { grid.new ≡ rows_left mr mc r rounds leaves word.now }
     ensures leaves { result ≡ row_leaves mr mc r rounds leaves word.now }
 {
+    let code = Profile {
+        m: mr,
+        r,
+        rounds,
+        leaves,
+    };
     let n = words::size(mr);
     let mut sum = 0;
+    // By index: a row stands at the same place of both buffers.
     for i in 0..words::size(mc) {
         let a = i * n;
         let e = a + n;
-        sum += decode_row(mr, r, rounds, leaves, &word[a..e], &mut grid[a..e], area);
+        sum += decode_row(code, &word[a..e], &mut grid[a..e], area);
     }
     sum
 }
@@ -62,6 +61,7 @@ pub fn are_codewords(mr: usize, mc: usize, r: usize, grid: &[u8]) -> bool
 {
     let n = words::size(mr);
     let mut t = [0u8; 64];
+    // Counted in rows, of n places each.
     for i in 0..words::size(mc) {
         let a = i * n;
         let e = a + n;

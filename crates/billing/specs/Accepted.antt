@@ -1,7 +1,7 @@
 -- What the steps to billing's line of a record ask. Assumes nothing.
 use Rattle.std.specs.Prelude.{ℕ, ◌≤◌, ◌≡◌, List}
 use Rattle.words.specs.Word.{IsWord}
-use Rattle.refusals.specs.declared.Decoded.{Decoded}
+use Rattle.refusals.specs.Refusals.{Decoded}
 use Rattle.refusals.specs.IsCode.{IsCode}
 use Rattle.code.specs.Code.{IsCodeword, dimension}
 use Rattle.profiles.specs.declared.Profile.{Profile}

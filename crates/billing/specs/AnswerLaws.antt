@@ -1,10 +1,10 @@
 -- What the decoder's answer says of the outcome that it is the answer of. Assumes nothing.
-use Rattle.std.specs.Prelude.{ℕ, ◌≡◌, List}
+use Rattle.std.specs.Prelude.{ℕ, ◌≡◌, List, Ok, Err}
 use Rattle.std.proofs.Common.{arith, sym, ap, subst, ◌∙◌}
 use Rattle.refusals.specs.declared.Refusal.{Refusal}
-use Rattle.refusals.specs.declared.Decoded.{Decoded}
-use Rattle.refusals.specs.declared.Decoded.TheVariants as decoder
-use Rattle.refusals.specs.Refusals.{number_of}
+use Rattle.refusals.specs.Refusals.{Decoded, number_of}
+use Rattle.refusals.specs.declared.Accepted.{Accepted}
+use Rattle.refusals.specs.declared.Refused.{Refused}
 use Rattle.refusals.proofs.CheckLaws.{number_pos}
 use Rattle.profiles.specs.declared.Profile.{Profile}
 use Rattle.rule.specs.Reading.{Outcome, accepted, refused}
@@ -27,13 +27,13 @@ module _ {p : Profile} {word decoded : List ℕ} {a : Decoded} (h : Answered p w
   sound : Sound p.m p.r (decoded_by p word)
   sound = decode_sound p.m p.r p.rounds p.leaves word h.received
 
-  pub answered_accepted : {k l n : ℕ} → a ≡ decoder.Accepted k l n → decoded_by p word ≡ accepted decoded k l
-  answered_accepted {k} {l} e =
-      accepted_outcome p.m p.r word decoded (decoded_by p word) sound (ap values_of (sym e) ∙ h.answer) ∙ ap (λ (d : List ℕ). accepted d k l) (sym h.output)
+  pub answered_accepted : {x : Accepted} → a ≡ Ok x → decoded_by p word ≡ accepted decoded x.rounds x.leaves
+  answered_accepted {x} e =
+      accepted_outcome p.m p.r word decoded (decoded_by p word) sound (ap values_of (sym e) ∙ h.answer) ∙ ap (λ (d : List ℕ). accepted d x.rounds x.leaves) (sym h.output)
 
-  pub answered_refused : {why : Refusal} {k l : ℕ} → a ≡ decoder.Refused why k l → decoded_by p word ≡ refused (number_of why) k l
-  answered_refused {why} e = refused_outcome p.m word why (decoded_by p word) (ap values_of (sym e) ∙ h.answer)
+  pub answered_refused : {x : Refused} → a ≡ Err x → decoded_by p word ≡ refused (number_of x.why) x.rounds x.leaves
+  answered_refused {x} e = refused_outcome p.m word x.why (decoded_by p word) (ap values_of (sym e) ∙ h.answer)
 
   -- an accepted word is a codeword
-  pub answered_codeword : {k l n : ℕ} → a ≡ decoder.Accepted k l n → AcceptedWord p decoded
+  pub answered_codeword : {x : Accepted} → a ≡ Ok x → AcceptedWord p decoded
   answered_codeword e = record { code = h.code; codeword = subst (Sound p.m p.r) (answered_accepted e) sound }

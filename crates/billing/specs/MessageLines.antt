@@ -1,8 +1,6 @@
 -- Laws of an accepted record's line: reading the message of an accepted word is never refused. Assumes nothing.
-use Rattle.std.specs.Prelude.{ℕ, ◌≡◌, List, length}
-use Rattle.refusals.specs.declared.Answer.{Answer}
-use Rattle.refusals.specs.declared.Answer.TheVariants.{Done}
-use Rattle.refusals.specs.Refusals.{first_refusal}
+use Rattle.std.specs.Prelude.{ℕ, ◌≡◌, List, length, Ok}
+use Rattle.refusals.specs.Refusals.{Answer, first_refusal}
 use Rattle.code.specs.Code.{message_of}
 use Rattle.codec_checks.specs.Checks.{read_checks}
 use Rattle.codec_checks.specs.Passed.{read_passes}
@@ -14,7 +12,7 @@ use Rattle.billing.specs.Accepted.{Readable}
 pub codeword_passes : {m r : ℕ} {word : List ℕ} {room : ℕ} → Readable m r word room → 0 ≡ first_refusal (read_checks m r word room)
 codeword_passes h = read_passes h.code h.codeword h.sized
 
-pub reads_done : {m r : ℕ} {word before after : List ℕ} {a : Answer} → Readable m r word (length before) → Reads m r word before after a → a ≡ Done
+pub reads_done : {m r : ℕ} {word before after : List ℕ} {a : Answer} → Readable m r word (length before) → Reads m r word before after a → a ≡ (Ok tt)
 reads_done h c = (call_passed c (codeword_passes h)).0
 
 pub reads_message : {m r : ℕ} {word before after : List ℕ} {a : Answer} → Readable m r word (length before) → Reads m r word before after a → after ≡ message_of m r word

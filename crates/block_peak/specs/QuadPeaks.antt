@@ -1,5 +1,6 @@
 -- The peak of the values of some quads, from the greatest key and the count of its size. Assumes nothing.
-use Rattle.std.specs.Prelude.{ℕ, zero, suc, ◌+◌, ◌*◌, ◌/◌, ◌%◌, ◌≤◌, ◌<◌, pred, ◌≡◌, refl, true, false, not, ◌&&◌, List, ◌≢◌, ◌⊎◌, eqb, ℤ, pos, nat_abs}
+use Rattle.std.specs.Prelude.{ℕ, zero, suc, ◌+◌, ◌*◌, ◌/◌, ◌%◌, ◌≤◌, ◌<◌, pred, ◌≡◌, refl, true, false, not, ◌&&◌, List, ◌≢◌, ◌⊎◌, eqb, ℤ, nat_abs, Option, None}
+use Rattle.std.proofs.lemmas.Bool.{false≢true}
 use Rattle.std.proofs.Common.{sym, ap, ap₂, ◌∙◌, subst, inl, inr, ⊎_elim, eq-eqb, ne_eqb, lt-ltb, le-ltb}
 use Rattle.std.proofs.Math.Decide.{ℕ_discrete, dec_lt}
 use native.Mathlib.Omega.{arith}
@@ -8,12 +9,13 @@ use Rattle.words.specs.Sum.{greatest_below, sum_below, total}
 use Rattle.words.specs.SumLaws.{le_or_lt, sum_ext}
 use Rattle.words.specs.Word.{indicator}
 use Rattle.area.specs.Area.{at}
-use Rattle.hadamard.specs.Correlation.{count_below, constant_of}
+use Rattle.hadamard.specs.Correlation.{count_below}
 use Rattle.hadamard.specs.Peak.{Alone, Shared, else_shared, greatest_at, greatest_bound, greatest_met, one_alone}
 use Rattle.peaks.specs.declared.Peak.{Peak}
 use Rattle.peaks.specs.Peaks.{IsPeak, PeakAt}
 use Rattle.peaks.specs.Pairs.{Layout, greater_below, greater_is, greater_sign, greater_place, pair_alone, pair_even, pairs_share, sizes}
-use Rattle.peaks.specs.Found.{one_peak, no_peak}
+use Rattle.peaks.specs.Found.{no_peak, pair_peak}
+use Rattle.peaks.specs.Stored.{peak_as}
 use Rattle.quads.specs.Quads.{number_of, sum_size, difference_size}
 use Rattle.quads.specs.Small.{sum_small, difference_small}
 use Rattle.keys.specs.Keys.{key_of, greatest_key, count_of}
@@ -221,46 +223,51 @@ module _ {h top : ℕ} {xs : List ℤ} (s : Sought h xs) (t : Top xs top) where
   more_pairs : count_of xs (top / 1024) ≢ 1 → Shared h (quad_sizes xs)
   more_pairs k = else_shared h (quad_sizes xs) (omega (arith, below)) (λ e. k (sym count_is ∙ e))
 
-  -- p is the peak at the pair x, y but for the test whether it is alone
-  module _ {x y : ℤ} {a p : Peak} (ex : x ≡ firsts xs j) (ey : y ≡ lasts xs j)
-      (k : PeakAt (top % 1024) (top % 1024 + 2) x y a)
-      (mask : p.mask ≡ a.mask) (constant : p.constant ≡ pos (constant_of x))
-      (alone : p.alone ≡ lone_test h xs (top / 1024) x y) where
-    one : Alone (h + h) (λ u. nat_abs (value_at xs u)) (greater_place places j) → p.alone ≡ true → IsPeak (h + h) (value_at xs) p
-    one only e =
-        one_peak (h + h) (value_at xs) only e
-        (mask ∙ k.mask ∙ rw (ex, ey, t.mask))
-        (constant ∙ ap pos (ap constant_of ex ∙ sym (greater_sign places j below)))
+  -- ---- the peak at the pair x, y
 
-    none : Shared (h + h) (λ u. nat_abs (value_at xs u)) → p.alone ≡ false → IsPeak (h + h) (value_at xs) p
-    none = no_peak (h + h) (value_at xs)
+  module _ {x y : ℤ} (ex : x ≡ firsts xs j) (ey : y ≡ lasts xs j) where
+    even : (nat_abs (firsts xs j) ≡ 0) ⊎ (nat_abs (lasts xs j) ≡ 0) → Shared (h + h) (λ u. nat_abs (value_at xs u))
+    even = pair_even places j below most
 
-    -- a size of at most half the places
-    module _ (low : top / 1024 ≤ h) where
-      test : p.alone ≡ (eqb (count_of xs (top / 1024)) 1 && not (eqb (nat_abs x) 0) && not (eqb (nat_abs y) 0))
-      test = alone ∙ rw (le-ltb h (top / 1024) low)
+    test_low : top / 1024 ≤ h → lone_test h xs (top / 1024) x y ≡ (eqb (count_of xs (top / 1024)) 1 && not (eqb (nat_abs x) 0) && not (eqb (nat_abs y) 0))
+    test_low low = rw (le-ltb h (top / 1024) low) refl
 
-      even : (nat_abs x ≡ 0) ⊎ (nat_abs y ≡ 0) → Shared (h + h) (λ u. nat_abs (value_at xs u))
-      even z = pair_even places j below most (rw (ex, ey) at z)
-
-      low_peak : IsPeak (h + h) (value_at xs) p
-      low_peak = elim (ℕ_discrete (count_of xs (top / 1024)) 1) [
-        | no m ↦ none (pairs_share places (more_pairs m)) (test ∙ rw (ne_eqb (count_of xs (top / 1024)) 1 m))
-        | yes e ↦ elim (ℕ_discrete (nat_abs x) 0) [
-          | yes z ↦ none (even (inl z)) (test ∙ rw (eq-eqb (count_of xs (top / 1024)) 1 e, eq-eqb (nat_abs x) 0 z))
-          | no nx ↦ elim (ℕ_discrete (nat_abs y) 0) [
-            | yes z ↦
-                none (even (inr z))
-                (test ∙ rw (eq-eqb (count_of xs (top / 1024)) 1 e, ne_eqb (nat_abs x) 0 nx, eq-eqb (nat_abs y) 0 z))
-            | no ny ↦
-                one (pair_alone places j (one_pair e) (rw ex at nx) (rw ey at ny))
-                (test ∙ rw (eq-eqb (count_of xs (top / 1024)) 1 e, ne_eqb (nat_abs x) 0 nx, ne_eqb (nat_abs y) 0 ny))
-          ]
+    -- the test fails
+    not_low : top / 1024 ≤ h → lone_test h xs (top / 1024) x y ≡ false → Shared (h + h) (λ u. nat_abs (value_at xs u))
+    not_low low e = elim (ℕ_discrete (count_of xs (top / 1024)) 1) [
+      | no m ↦ pairs_share places (more_pairs m)
+      | yes ec ↦ elim (ℕ_discrete (nat_abs x) 0) [
+        | yes z ↦ even (inl (rw ex at z))
+        | no nx ↦ elim (ℕ_discrete (nat_abs y) 0) [
+          | yes z ↦ even (inr (rw ey at z))
+          | no ny ↦
+              absurd (false≢true (sym e ∙ test_low low ∙ rw (eq-eqb (count_of xs (top / 1024)) 1 ec, ne_eqb (nat_abs x) 0 nx, ne_eqb (nat_abs y) 0 ny) refl))
         ]
       ]
-
-    pub top_peak : IsPeak (h + h) (value_at xs) p
-    top_peak = elim (dec_lt h (top / 1024)) [
-      | yes l ↦ one (great_alone l) (alone ∙ rw (lt-ltb h (top / 1024) l))
-      | no l ↦ low_peak (omega arith)
     ]
+
+    pub top_shared : lone_test h xs (top / 1024) x y ≡ false → IsPeak (h + h) (value_at xs) None
+    top_shared e = elim (dec_lt h (top / 1024)) [
+      | yes l ↦ absurd (false≢true (sym e ∙ rw (lt-ltb h (top / 1024) l) refl))
+      | no l ↦ no_peak (h + h) (value_at xs) (not_low (omega arith) e)
+    ]
+
+    -- the test passes
+    one_low : top / 1024 ≤ h → lone_test h xs (top / 1024) x y ≡ true → Alone h (quad_sizes xs) j
+    one_low low e = elim (ℕ_discrete (count_of xs (top / 1024)) 1) [
+      | yes ec ↦ one_pair ec
+      | no m ↦ absurd (false≢true (rw (ne_eqb (count_of xs (top / 1024)) 1 m) at (sym (test_low low) ∙ e)))
+    ]
+
+    only : lone_test h xs (top / 1024) x y ≡ true → nat_abs (firsts xs j) ≢ 0 → nat_abs (lasts xs j) ≢ 0
+        → Alone (h + h) (λ u. nat_abs (value_at xs u)) (greater_place places j)
+    only e nx ny = elim (dec_lt h (top / 1024)) [
+      | yes l ↦ great_alone l
+      | no l ↦ pair_alone places j (one_low (omega arith) e) nx ny
+    ]
+
+    -- o is the peak at the pair x, y
+    pub top_peak : lone_test h xs (top / 1024) x y ≡ true → {o : Option Peak} → PeakAt (top % 1024) (top % 1024 + 2) x y o → IsPeak (h + h) (value_at xs) o
+    top_peak e {o} k =
+        pair_peak (h + h) (value_at xs) even (only e) (greater_sign places j below)
+        (subst (λ (u : ℕ). PeakAt u (u + 2) (firsts xs j) (lasts xs j) o) t.mask (peak_as ex ey k))

@@ -21,7 +21,7 @@ fn is_alone(quads: &[i32], h: usize, g: u32, x: i32, y: i32) -> bool
 }
 
 // The peak of the values of some quads, of which h is the number of pairs.
-pub fn find_peak(h: usize, quads: &[i32]) -> Peak
+pub fn find_peak(h: usize, quads: &[i32]) -> Option<Peak>
     requires { Sought h quads.now }
     ensures { IsPeak (h + h) (value_at quads.now) result }
 {
@@ -31,10 +31,8 @@ pub fn find_peak(h: usize, quads: &[i32]) -> Peak
     let pair = quads::pair_at(j % 2, 0, quads[j / 4]);
     let x = pair.x;
     let y = pair.y;
-    let at = peaks::peak_at(j, j + 2, x, y);
-    Peak {
-        mask: at.mask,
-        alone: is_alone(quads, h, g, x, y),
-        constant: at.constant,
+    if !is_alone(quads, h, g, x, y) {
+        return None;
     }
+    peaks::peak_at(j, j + 2, x, y)
 }

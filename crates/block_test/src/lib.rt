@@ -12,8 +12,8 @@ fn four_at(word: &[u8], b: usize) -> u32
     requires { (b + 4 ≤ length word.now) × AreBits (bit word.now) }
     ensures { result ≡ packed 4 (λ i. bit word.now (b + i)) }
 {
-    let x = word[b] as u32 + 256 * (word[b + 1] as u32);
-    let y = word[b + 2] as u32 + 256 * (word[b + 3] as u32);
+    let x = u32::from(word[b]) + 256 * u32::from(word[b + 1]);
+    let y = u32::from(word[b + 2]) + 256 * u32::from(word[b + 3]);
     x + 65536 * y
 }
 
@@ -22,7 +22,7 @@ fn eight_at(word: &[u8], b: usize) -> u64
     requires { (b + 8 ≤ length word.now) × AreBits (bit word.now) }
     ensures { result ≡ packed 8 (λ i. bit word.now (b + i)) }
 {
-    four_at(word, b) as u64 + 4294967296 * (four_at(word, b + 4) as u64)
+    u64::from(four_at(word, b)) + 4294967296 * u64::from(four_at(word, b + 4))
 }
 
 // Whether the places h to 2h - 1 are the first h with one bit added to all, eight at a time.
@@ -30,12 +30,11 @@ fn repeats(h: usize, word: &[u8]) -> bool
     requires { (h % 8 ≡ 0) × (0 < h) × (h + h ≤ length word.now) × AreBits (bit word.now) }
     ensures { result ≡ repeats (bit word.now) h }
 {
-    let t = (word[0] ^ word[h]) as u64 * 72340172838076673;
+    let t = u64::from(word[0] ^ word[h]) * 72340172838076673;
     let mut same = true;
-    let mut i = 0;
-    while i < h {
+    for k in 0..h / 8 {
+        let i = 8 * k;
         same = same & (eight_at(word, i) ^ eight_at(word, h + i) == t);
-        i += 8;
     }
     same
 }
@@ -46,7 +45,7 @@ fn first_levels(word: &[u8]) -> bool
     ensures { result ≡ levels_test 3 (bit word.now) }
 {
     let two = word[1] ^ word[3] == word[0] ^ word[2];
-    two & (four_at(word, 0) ^ four_at(word, 4) == (word[0] ^ word[4]) as u32 * 16843009)
+    two & (four_at(word, 0) ^ four_at(word, 4) == u32::from(word[0] ^ word[4]) * 16843009)
 }
 
 // The levels from `first` on, where those below pass.
@@ -54,12 +53,10 @@ fn levels_from(first: usize, m: usize, word: &[u8]) -> bool
     requires { (levels_test first (bit word.now) ≡ true) × (3 ≤ first) × (first ≤ m) × (m ≤ 10) × IsWord m word.now }
     ensures { result ≡ levels_test m (bit word.now) }
 {
-    let mut k = first;
-    while k < m {
+    for k in first..m {
         if !repeats(words::size(k), word) {
             return false;
         }
-        k += 1;
     }
     true
 }

@@ -37,6 +37,7 @@ fn load(k: usize, word: &[u8], area: &mut [i32])
     ensures { Loaded k word.now (2 ^ k) area.new }
 {
     let q = words::size(k);
+    // By eight: counted in blocks, the reading of 32 places took 8 instructions more of 321.
     let mut i = 0;
     while i < q {
         load_eight(word, i, area);

@@ -11,7 +11,7 @@ pub fn quad_at(word: &[u8], i: usize) -> i32
     ensures { result ≡ quad_at word.now i }
 {
     let j = 4 * i;
-    let x = word[j] as u32 + 256 * (word[j + 1] as u32);
-    let y = word[j + 2] as u32 + 256 * (word[j + 3] as u32);
+    let x = u32::from(word[j]) + 256 * u32::from(word[j + 1]);
+    let y = u32::from(word[j + 2]) + 256 * u32::from(word[j + 3]);
     16843009 - 2 * ((x + 65536 * y) as i32)
 }

@@ -1,13 +1,12 @@
 -- The records of a capture: document 01, "Captures and the meter listing". Assumes nothing.
-use Rattle.std.specs.Prelude.{ℕ, ◌+◌, ◌*◌, ◌/◌, ◌^◌, ◌≡◌, cond, not, List, length, get_or, drop, ltb, eqb}
+use Rattle.std.specs.Prelude.{ℕ, ◌+◌, ◌*◌, ◌/◌, ◌^◌, ◌≡◌, cond, not, List, length, get_or, drop, ltb, eqb, Option, Some, None, Result, Ok, Err}
 use Rattle.words.specs.Sum.{tabulate}
 use Rattle.refusals.specs.Refusals.{number_of}
 use Rattle.tables.specs.declared.Table.{Table}
-use Rattle.tables.specs.declared.Slot.{Slot}
-use Rattle.tables.specs.Tables.{slot_of}
+use Rattle.tables.specs.Tables.{Slot, held, is_there, slot_of}
 use Rattle.unpacking.specs.Packed.{packed_bit}
-use Rattle.capture.specs.declared.Found.{Found}
-use Rattle.capture.specs.declared.Found.TheVariants.{Record, Refused, NoneLeft}
+use Rattle.capture.specs.declared.NoRecord.{NoRecord}
+use Rattle.capture.specs.declared.Record.{Record}
 
 -- "serial (32 bits, senior byte first)"
 abbrev pub serial_of : List ℕ → ℕ
@@ -23,7 +22,7 @@ slot_at t s = slot_of t (profile_at s)
 
 -- n of an entry, and the length of its record
 abbrev pub word_size : Slot → ℕ
-word_size slot = 2 ^ slot.profile.m
+word_size slot = 2 ^ (held slot).m
 
 abbrev pub record_size : Slot → ℕ
 record_size slot = 5 + word_size slot / 8
@@ -40,10 +39,13 @@ pub data Answer : Type 0 where
   record_at : ℕ → ℕ → ℕ → Answer
 
 -- of each case of the code's answer
+abbrev pub Found : Type 0
+Found = Result (Option Record) NoRecord
+
 abbrev pub answer_of : Found → Answer
-answer_of (Record serial profile next) = record_at serial profile next
-answer_of (Refused why serial) = refused (number_of why) serial
-answer_of NoneLeft = none_left
+answer_of (Ok (Some found)) = record_at found.serial found.profile found.next
+answer_of (Err missing) = refused (number_of missing.why) missing.serial
+answer_of (Ok None) = none_left
 
 -- by what the table has at the profile
 module _ (slot : Slot) where
@@ -54,13 +56,13 @@ module _ (slot : Slot) where
   record_in s at room =
       cond (eqb (length s) 0) none_left
       (cond (ltb (length s) 5) (refused 16 0)
-      (cond (not slot.known) (refused 14 (serial_of s))
+      (cond (not (is_there slot)) (refused 14 (serial_of s))
       (cond (ltb (length s) (record_size slot)) (refused 16 0)
       (cond (eqb room (word_size slot)) (record_at (serial_of s) (profile_at s) (at + record_size slot)) (refused 6 (serial_of s))))))
 
   -- how many bytes follow the five of a head: 0 where there are fewer than five or the profile is unknown
   unfoldable pub body_length : List ℕ → ℕ
-  body_length s = cond (ltb (length s) 5) 0 (cond slot.known (word_size slot / 8) 0)
+  body_length s = cond (ltb (length s) 5) 0 (cond (is_there slot) (word_size slot / 8) 0)
 
   -- the word buffer after an answer: the record's bits, or as it was
   abbrev pub buffer_of : Answer → List ℕ → List ℕ → List ℕ

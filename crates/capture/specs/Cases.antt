@@ -1,21 +1,21 @@
 -- What the capture reader answers, case by case. Assumes nothing.
-use Rattle.std.specs.Prelude.{ℕ, ◌+◌, ◌-◌, ◌*◌, ◌/◌, ◌%◌, ◌^◌, ◌<◌, ◌≤◌, ◌≡◌, refl, Bool, true, false, List, take, drop}
+use Rattle.std.specs.Prelude.{ℕ, ◌+◌, ◌-◌, ◌*◌, ◌/◌, ◌%◌, ◌^◌, ◌<◌, ◌≤◌, ◌≡◌, refl, Bool, true, false, List, take, drop, Ok, None}
 use Rattle.std.proofs.Common.{ap, ◌∙◌, subst, length-drop, take_all, pow-add, pow_pos, pow_mono}
 use Rattle.std.proofs.Math.Decide.{dec_lt}
 use native.Mathlib.Omega.{arith}
 use Rattle.std.proofs.Math.ListN.{length}
 use borrow.Author.Tests.{lt-ltb, le-ltb, eq-eqb, ne_eqb}
+use Rattle.profiles.specs.declared.Profile.{Profile}
 use Rattle.tables.specs.declared.Table.{Table}
-use Rattle.tables.specs.declared.Slot.{Slot}
+use Rattle.tables.specs.Tables.{Slot, held, is_there, some}
+use Rattle.tables.specs.Limits.{InLimits}
 use Rattle.tables.specs.Slots.{Proper}
-use Rattle.capture.specs.declared.Found.{Found}
-use Rattle.capture.specs.declared.Found.TheVariants.{NoneLeft}
-use Rattle.capture.specs.Capture.{Answer, none_left, refused, record_at, Finds, Stands, answer_of, body_length, buffer_of, profile_at, record_in, record_size, serial_of, slot_at, word_size}
+use Rattle.capture.specs.Capture.{Answer, Found, none_left, refused, record_at, Finds, Stands, answer_of, body_length, buffer_of, profile_at, record_in, record_size, serial_of, slot_at, word_size}
 
 -- ---- the words of an entry
 
 pub record Sized (slot : Slot) : Type 0 where
-  pub exponent : slot.profile.m ≤ 10
+  pub exponent : (held slot).m ≤ 10
   pub some : 8 ≤ word_size slot
   pub most : word_size slot ≤ 1024
   pub bytes : word_size slot % 8 ≡ 0
@@ -23,12 +23,15 @@ pub record Sized (slot : Slot) : Type 0 where
 eight_more : (m : ℕ) → 3 ≤ m → 2 ^ m ≡ 8 * 2 ^ (m - 3)
 eight_more m h = ap (λ (k : ℕ). 2 ^ k) {x = m} {y = 3 + (m - 3)} (omega arith) ∙ pow-add 2 3 (m - 3)
 
-pub sized : (slot : Slot) → Proper slot → slot.known ≡ true → Sized slot
+pub sized : (slot : Slot) → Proper slot → is_there slot ≡ true → Sized slot
 sized slot p e =
     let k = p.limits e in
-    let m : ℕ = slot.profile.m in
+    let m : ℕ = (held slot).m in
     let q : 2 ^ m ≡ 8 * 2 ^ (m - 3) = eight_more m k.some in
     record { exponent = k.small; some = omega (arith, q, pow_pos (m - 3)); most = pow_mono k.small; bytes = omega (arith, q) }
+
+pub in_table : (p : Profile) → InLimits p → Proper (some p)
+in_table p k = record { limits = λ e. k }
 
 -- ---- the record at the start of s
 
@@ -43,11 +46,11 @@ module _ (slot : Slot) (s : List ℕ) (at room : ℕ) where
     no_head h = simp (ne_eqb _ _ any, lt-ltb _ _ h)
 
     module _ (head : 5 ≤ length s) where
-      pub unknown : slot.known ≡ false → refused 14 (serial_of s) ≡ record_in slot s at room
+      pub unknown : is_there slot ≡ false → refused 14 (serial_of s) ≡ record_in slot s at room
       unfolding record_in
       unknown h = simp (ne_eqb _ _ any, le-ltb _ _ head, h)
 
-      module _ (is : slot.known ≡ true) where
+      module _ (is : is_there slot ≡ true) where
         pub no_body : length s < record_size slot → refused 16 0 ≡ record_in slot s at room
         unfolding record_in
         no_body h = simp (ne_eqb _ _ any, le-ltb _ _ head, is, lt-ltb _ _ h)
@@ -67,7 +70,7 @@ stands {slot} {s} {word = word} e p b = record { answer = e ∙ p; buffer = b �
 
 -- ---- at a position of a capture
 
-pub past_end : (t : Table) (capture : List ℕ) (at : ℕ) (word : List ℕ) → length capture ≤ at → Finds t capture at word word NoneLeft
+pub past_end : (t : Table) (capture : List ℕ) (at : ℕ) (word : List ℕ) → length capture ≤ at → Finds t capture at word word (Ok None)
 past_end t capture at word h =
     let e : none_left ≡ record_in (slot_at t (drop at capture)) (drop at capture) at (length word) = none _ _ _ _ (rw length-drop (omega arith)) in
     record { answer = e; buffer = rw (← e) }
@@ -86,17 +89,17 @@ module _ (slot : Slot) (s : List ℕ) where
   unfolding body_length
   cut_body h = simp (lt-ltb _ _ h)
 
-  pub unknown_body : 5 ≤ length s → slot.known ≡ false → 0 ≡ body_length slot s
+  pub unknown_body : 5 ≤ length s → is_there slot ≡ false → 0 ≡ body_length slot s
   unfolding body_length
   unknown_body h p = simp (le-ltb _ _ h, p)
 
-  pub known_body : 5 ≤ length s → slot.known ≡ true → word_size slot / 8 ≡ body_length slot s
+  pub known_body : 5 ≤ length s → is_there slot ≡ true → word_size slot / 8 ≡ body_length slot s
   unfolding body_length
   known_body h p = simp (le-ltb _ _ h, p)
 
 -- a word buffer of eight times the bytes that follow has the right size; where none follow, its size does not matter
 module _ (slot : Slot) (s : List ℕ) (at : ℕ) where
-  no_size : (m n : ℕ) → (5 ≤ length s → slot.known ≡ false) → record_in slot s at m ≡ record_in slot s at n
+  no_size : (m n : ℕ) → (5 ≤ length s → is_there slot ≡ false) → record_in slot s at m ≡ record_in slot s at n
   unfolding record_in
   no_size m n h = elim (dec_lt (length s) 5) [
     | yes short ↦ simp (lt-ltb _ _ short)
@@ -106,9 +109,9 @@ module _ (slot : Slot) (s : List ℕ) (at : ℕ) where
   pub own_size : Proper slot → record_in slot s at (8 * body_length slot s) ≡ record_in slot s at (word_size slot)
   own_size p = elim (dec_lt (length s) 5) [
     | yes short ↦ no_size _ _ (λ l. absurd (omega arith))
-    | no long ↦ go slot.known refl (omega arith)
+    | no long ↦ go (is_there slot) refl (omega arith)
   ]
     where
-      go : (b : Bool) → slot.known ≡ b → 5 ≤ length s → record_in slot s at (8 * body_length slot s) ≡ record_in slot s at (word_size slot)
+      go : (b : Bool) → is_there slot ≡ b → 5 ≤ length s → record_in slot s at (8 * body_length slot s) ≡ record_in slot s at (word_size slot)
       go true e l = ap (record_in slot s at) (omega (arith, known_body slot s l e, (sized slot p e).bytes))
       go false e l = no_size _ _ (λ z. e)

@@ -1,27 +1,29 @@
 // The capture reader: the record that starts at a position.
 #![tactic(auto)]
 
-ghost use Rattle.std.specs.Prelude.{◌≡◌, ◌+◌, ◌%◌, ◌^◌, ◌≤◌, ◌<◌, length, true};
+ghost use Rattle.std.specs.Prelude.{◌≡◌, ◌+◌, ◌%◌, ◌^◌, ◌≤◌, ◌<◌, length};
+ghost use Rattle.tables.specs.Tables.{some};
+ghost use Rattle.tables.specs.Limits.{InLimits};
 ghost use Rattle.tables.specs.Slots.{Proper};
 ghost use Rattle.capture.specs.Capture.{profile_at, serial_of, word_size, body_length, Finds, Stands};
 
+use profiles::Profile;
 use refusals::Refusal;
-use tables::{Slot, Table};
+use tables::Profiles;
 
-// What stands at a position of a capture.
+// A record of a capture, and the position after it.
 #[derive(Clone, Copy)]
-pub enum Found {
-    // the serial, the profile, and the position after the record
-    Record(u32, usize, usize),
-    // why, and the serial, 0 where it is not printed
-    Refused(Refusal, u32),
-    NoneLeft,
+pub struct Record {
+    pub serial: u32,
+    pub profile: usize,
+    pub next: usize,
 }
 
-fn wide(b: u8) -> u32
-    ensures { (result ≡ b) × (result < 256) }
-{
-    b as u32
+// Why there is no record, and the serial, 0 where it is not printed.
+#[derive(Clone, Copy)]
+pub struct NoRecord {
+    pub why: Refusal,
+    pub serial: u32,
 }
 
 // The number of the first four bytes, the senior one first.
@@ -29,7 +31,8 @@ fn serial_of(part: &[u8]) -> u32
     requires { 4 ≤ length part.now }
     ensures { result ≡ serial_of part.now }
 {
-    ((wide(part[0]) * 256 + wide(part[1])) * 256 + wide(part[2])) * 256 + wide(part[3])
+    ((u32::from(part[0]) * 256 + u32::from(part[1])) * 256 + u32::from(part[2])) * 256
+        + u32::from(part[3])
 }
 
 // The profile of the record at the start of the part, 0 where it is not there.
@@ -39,68 +42,92 @@ pub fn number_at(start: &[u8]) -> usize
     if start.len() < 5 {
         return 0;
     }
-    start[4] as usize
+    usize::from(start[4])
 }
 
 // The word length of an entry.
-fn word_size(slot: Slot) -> usize
-    requires { Proper slot × (slot.known ≡ true) }
-    ensures { (result ≡ word_size slot) × (result ≤ 1024) × (result % 8 ≡ 0) }
+fn word_size(p: Profile) -> usize
+    requires { InLimits p }
+    ensures { (result ≡ word_size (some p)) × (result ≤ 1024) × (result % 8 ≡ 0) }
 {
-    words::size(slot.profile.m)
+    words::size(p.m)
 }
 
 // The record at the start of the part, which stands at position `at` of the capture, by what the table has at its profile. Its bits are
 // unpacked into the word. Any other answer leaves the word as it was.
-pub fn record_in(slot: Slot, part: &[u8], at: usize, word: &mut [u8]) -> Found
+pub fn record_in(
+    slot: Option<Profile>,
+    part: &[u8],
+    at: usize,
+    word: &mut [u8],
+) -> Result<Option<Record>, NoRecord>
     requires { Proper slot × (at + length part.now < 2 ^ 64) }
     ensures { Stands slot part.now at word.old word.new result }
 {
     if part.len() == 0 {
-        return Found::NoneLeft;
+        return Ok(None);
     }
     if part.len() < 5 {
-        return Found::Refused(Refusal::Truncated, 0);
+        return Err(NoRecord {
+            why: Refusal::Truncated,
+            serial: 0,
+        });
     }
     let serial = serial_of(part);
-    let profile = part[4] as usize;
-    if !slot.known {
-        return Found::Refused(Refusal::Profile, serial);
-    }
-    let n = word_size(slot);
+    let profile = usize::from(part[4]);
+    let p = slot.ok_or(NoRecord {
+        why: Refusal::Profile,
+        serial,
+    })?;
+    let n = word_size(p);
     let end = 5 + n / 8;
     if part.len() < end {
-        return Found::Refused(Refusal::Truncated, 0);
+        return Err(NoRecord {
+            why: Refusal::Truncated,
+            serial: 0,
+        });
     }
     if word.len() != n {
-        return Found::Refused(Refusal::OutputLength, serial);
+        return Err(NoRecord {
+            why: Refusal::OutputLength,
+            serial,
+        });
     }
     unpacking::unpack(part, word);
-    Found::Record(serial, profile, at + end)
+    Ok(Some(Record {
+        serial,
+        profile,
+        next: at + end,
+    }))
 }
 
-// The record at a position of the capture, under a table.
-pub fn find_record(table: Table, capture: &[u8], at: usize, word: &mut [u8]) -> Found
-    ensures { Finds table capture.now at word.old word.new result }
+// The record at a position of the capture, under a table or document 01's.
+pub fn find_record<P: Profiles>(
+    profiles: &P,
+    capture: &[u8],
+    at: usize,
+    word: &mut [u8],
+) -> Result<Option<Record>, NoRecord>
+    ensures { Finds (P.table profiles.now) capture.now at word.old word.new result }
 {
     if capture.len() <= at {
-        return Found::NoneLeft;
+        return Ok(None);
     }
     let number = number_at(&capture[at..]);
-    let slot = tables::look(table, number);
+    let slot = profiles.look(number);
     record_in(slot, &capture[at..], at, word)
 }
 
 // How many bytes follow the five of a record's head: 0 where there are fewer than five or the profile is unknown.
-pub fn body_length(slot: Slot, head: &[u8]) -> usize
+pub fn body_length(slot: Option<Profile>, head: &[u8]) -> usize
     requires { Proper slot }
     ensures { (result ≡ body_length slot head.now) × (result ≤ 128) }
 {
     if head.len() < 5 {
         return 0;
     }
-    if !slot.known {
-        return 0;
+    match slot {
+        Some(p) => word_size(p) / 8,
+        None => 0,
     }
-    word_size(slot) / 8
 }

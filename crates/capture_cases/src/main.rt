@@ -2,25 +2,26 @@
 // what the buffer holds, 2 where nothing was written.
 #![tactic(auto)]
 
-use capture::Found;
+use capture::{NoRecord, Record};
 use std::io;
+use tables::Standard;
 
-fn print(rt: &impl Print, text: &str, number: u64) -> io::Result<()> {
-    print!(rt; "{text}{number}")
-}
-
-fn print_found(rt: &impl Print, found: Found) -> io::Result<()> {
+fn print_found(rt: &impl Print, found: Result<Option<Record>, NoRecord>) -> io::Result<()> {
     match found {
-        Found::Record(serial, profile, next) => {
-            print(rt, "serial ", serial as u64)?;
-            print(rt, ", profile ", profile as u64)?;
-            print(rt, ", next at ", next as u64)
+        Ok(Some(record)) => {
+            let Record {
+                serial,
+                profile,
+                next,
+            } = record;
+            print!(rt; "serial {serial}, profile {profile}, next at {next}")
         }
-        Found::Refused(why, serial) => {
-            print(rt, "refused ", refusals::number(why) as u64)?;
-            print(rt, ", serial ", serial as u64)
+        Ok(None) => print!(rt; "none left"),
+        Err(missing) => {
+            let number = refusals::number(missing.why);
+            let serial = missing.serial;
+            print!(rt; "refused {number}, serial {serial}")
         }
-        Found::NoneLeft => print!(rt; "none left"),
     }
 }
 
@@ -39,10 +40,10 @@ fn read(rt: &impl Print, at: usize, word: &mut [u8]) -> io::Result<()> {
     // the first record of document 01's example, a record of profile 1, a profile above 4, and a record that is cut
     let capture =
         b"\x00\x3D\x09\x11\x00\x7F\xFF\x00\x00\x00\x00\x00\x07\x01\x80\x00\x00\x00\x00\x00\x00\x01\x00\x00\x00\x08\x05\x00\x00\x00\x09\x00\xFF\xFF\xFF";
-    let found = capture::find_record(tables::ours(), capture, at, word);
+    let found = capture::find_record(&Standard, capture, at, word);
     print_found(rt, found)?;
-    print(rt, ", word of ", word.len() as u64)?;
-    print!(rt; " (")?;
+    let size = word.len();
+    print!(rt; ", word of {size} (")?;
     print_bytes(rt, word)?;
     println!(rt; ")")
 }

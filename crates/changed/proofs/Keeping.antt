@@ -9,8 +9,7 @@ use lib.IntN.{ℤ}
 use Rattle.words.specs.Word.{IsWord}
 use Rattle.refusals.specs.IsCode.{IsCode}
 use Rattle.refusals.proofs.CheckLaws.{code_passes, passed}
-use Rattle.refusals.specs.Refusals.{Check, code_checks, first_refusal}
-use Rattle.refusals.specs.declared.Decoded.{Decoded}
+use Rattle.refusals.specs.Refusals.{Check, code_checks, first_refusal, Decoded}
 use Rattle.profiles.specs.Profiles.{profile_of, profiles, row}
 use Rattle.profiles.specs.declared.Profile.{Profile}
 use Rattle.rule.specs.Reading.{Outcome, accepted, reading}
@@ -20,8 +19,7 @@ use Rattle.rule.proofs.DecodingLaws.{call_is, limited_within, profile_call_is}
 use Rattle.rule.proofs.ProfileLaws.{profile_limited}
 use Rattle.rule.specs.Calls.{Decodes}
 use Rattle.alike.specs.Alike.{Fit}
-use Rattle.gap.specs.declared.Measured.{Measured}
-use Rattle.gap.specs.Calls.{Measures}
+use Rattle.gap.specs.Calls.{Measured, Measures}
 use Rattle.gap.specs.CallLaws.{Passed, gap_given}
 use Rattle.gap.specs.GapLaws.{SameCodeword, gap_same}
 use Rattle.changed.specs.Changed.{Near, Same}

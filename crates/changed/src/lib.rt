@@ -9,15 +9,14 @@ ghost use Rattle.rule.specs.Decoding.{limit_checks};
 ghost use Rattle.alike.specs.Alike.{Fit};
 ghost use Rattle.changed.specs.Changed.{Near, Same};
 
-use gap::Measured;
-use refusals::Decoded;
+use refusals::{Accepted, Refusal, Refused};
 
 // What the calls answer: the gap of the first block, and both decodings.
 #[derive(Clone, Copy)]
 pub struct Three {
-    pub gap: Measured,
-    pub first: Decoded,
-    pub second: Decoded,
+    pub gap: Result<usize, Refusal>,
+    pub first: Result<Accepted, Refused>,
+    pub second: Result<Accepted, Refused>,
 }
 
 // Under limits that are not refused.
@@ -38,11 +37,7 @@ pub fn decode_changed(
     let gap = gap::gap(m, word1, area);
     let first = decoder::decode(m, 1, rounds, leaves, word1, out1, area1);
     let second = decoder::decode(m, 1, rounds, leaves, word2, out2, area2);
-    Three {
-        gap: gap,
-        first: first,
-        second: second,
-    }
+    Three { gap, first, second }
 }
 
 // The exponent of a profile, 0 where there is none.
@@ -56,7 +51,7 @@ fn exponent(profile: usize) -> usize
     p.m
 }
 
-// Under a profile of order 1.
+// Under a profile of order 1. Beside `decode_changed`, as `decode_profile` stands beside `decode`: its limits are never refused.
 pub fn decode_profile_changed(
     profile: usize,
     word1: &[u8],
@@ -73,9 +68,5 @@ pub fn decode_profile_changed(
     let gap = gap::gap(m, word1, area);
     let first = decoder::decode_profile(profile, word1, out1, area1);
     let second = decoder::decode_profile(profile, word2, out2, area2);
-    Three {
-        gap: gap,
-        first: first,
-        second: second,
-    }
+    Three { gap, first, second }
 }

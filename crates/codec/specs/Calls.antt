@@ -1,12 +1,14 @@
 -- What the calls of the encoder, the message reader and the codeword test promise. Assumes nothing.
-use Rattle.std.specs.Prelude.{ℕ, ◌≡◌, Bool, true, false, cond, List, length, eqb}
-use Rattle.refusals.specs.declared.Answer.{Answer}
-use Rattle.refusals.specs.Refusals.{number_of, place_of, answer_number, answer_place, place_named, Check, first_refusal}
+use Rattle.std.specs.Prelude.{Result, Ok, Err, ℕ, ◌≡◌, Bool, cond, List, length, eqb}
+use Rattle.refusals.specs.declared.Refusal.{Refusal}
+use Rattle.refusals.specs.Refusals.{Answer, number_of, place_of, answer_number, answer_place, place_named, Check, first_refusal}
 use Rattle.code.specs.Code.{codeword, codeword_test, message_of}
 use Rattle.code.specs.TestSteps.{steps_test}
 use Rattle.codec_checks.specs.Checks.{encode_checks, read_checks, test_checks}
-use Rattle.codec.specs.declared.Tested.{Tested}
-use Rattle.codec.specs.declared.Tested.TheVariants.{Codeword, NotCodeword, Refused}
+
+-- what the codeword test answers
+abbrev pub Tested : Type 0
+Tested = Result Bool Refusal
 
 -- "Every refusal leaves the output untouched."
 abbrev pub output_of : ℕ → List ℕ → List ℕ → List ℕ
@@ -26,22 +28,16 @@ Reads m r word before after a = Calls (read_checks m r word (length before)) (me
 
 -- the codeword test's number, 0 where it is not refused, and its answer there
 abbrev pub tested_number : Tested → ℕ
-tested_number Codeword = 0
-tested_number NotCodeword = 0
-tested_number (Refused why) = number_of why
+tested_number (Ok b) = 0
+tested_number (Err why) = number_of why
 
 abbrev pub tested_place : Tested → ℕ
-tested_place Codeword = 0
-tested_place NotCodeword = 0
-tested_place (Refused why) = place_of why
-
-abbrev pub verdict : Bool → Tested
-verdict true = Codeword
-verdict false = NotCodeword
+tested_place (Ok b) = 0
+tested_place (Err why) = place_of why
 
 -- the answer is the definition's, and "the one these steps give"
 pub record Tests (m r : ℕ) (word : List ℕ) (a : Tested) : Type 0 where
   pub number : tested_number a ≡ first_refusal (test_checks m r word)
   pub place : tested_place a ≡ place_named word (first_refusal (test_checks m r word))
-  pub answer : first_refusal (test_checks m r word) ≡ 0 → a ≡ verdict (codeword_test m r word)
-  pub steps : first_refusal (test_checks m r word) ≡ 0 → a ≡ verdict (steps_test m r word)
+  pub answer : first_refusal (test_checks m r word) ≡ 0 → a ≡ Ok (codeword_test m r word)
+  pub steps : first_refusal (test_checks m r word) ≡ 0 → a ≡ Ok (steps_test m r word)

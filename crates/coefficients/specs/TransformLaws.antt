@@ -1,14 +1,12 @@
 -- Sums modulo 2 by halves give the coefficient of every mask. Assumes nothing.
-use Rattle.std.specs.Prelude.{ℕ, ◌+◌, ◌%◌, ◌^◌, ◌<◌, ◌≡◌, refl, List, length, set}
-use Rattle.std.proofs.Common.{sym, ap, ◌∙◌, arith, add_comm}
-use Rattle.std.specs.Int.Bits.{bit_xor}
+use Rattle.std.specs.Prelude.{ℕ, ◌+◌, ◌%◌, ◌^◌, ◌<◌, ◌≡◌, refl, List, length}
+use Rattle.std.proofs.Common.{sym, ap, ◌∙◌, arith}
 use Rattle.words.specs.Butterflies.{Rule, Entries, entry, halved}
-use Rattle.words.specs.ButterflyLaws.{ByHalves, halved-entry, halved_entries, PairsDone, pair_room, pairs_second}
+use Rattle.words.specs.ButterflyLaws.{ByHalves, halved-entry, halved_entries}
 use Rattle.words.specs.Sum.{total, tabulate}
 use Rattle.words.specs.SumLaws.{bit_tabulate}
 use Rattle.words.specs.Word.{IsWord, bit}
 use Rattle.words.proofs.WordLaws.{word_ext, word_tabulate, unmod}
-use Rattle.words.specs.Xor.{xor_bits}
 use Rattle.code.specs.Code.{coefficient}
 use Rattle.code.proofs.Codewords.{coefficient-lt}
 use Rattle.code.specs.Degree.{coef, coef_low, coef_top, coef_plus, second}
@@ -70,12 +68,3 @@ halved-coefficient m w h =
     (λ u l.
     omega (arith, e.room.each u, transform_coef parities (λ x. x) (λ x y. refl) (λ x y. refl) m w (bit w) h.size (λ p g. refl) h.bits u l)
     ∙ sym (bit_tabulate (2 ^ m) (coefficient m w) u l))
-
--- a turn of the loop over the pairs, as the code computes it
-pub pair_added :
-    {h i : ℕ} {a₀ a : List ℕ} → PairsDone parities h i a₀ a → i < h → Entries parities (h + h) 1 a₀
-    → PairsDone parities h (i + 1) a₀ (set a (h + i) (bit_xor (bit a (h + i)) (bit a i)))
-unfolding parities
-pair_added {h} {i} {a₀} {a} d l e =
-    let b = pair_room parities d l e.room in
-    pairs_second parities d l e.size _ refl (xor_bits (bit a (h + i)) (bit a i) b.1 b.0 ∙ ap (λ (n : ℕ). n % 2) (add_comm _ _))

@@ -1,33 +1,28 @@
 -- Whole calls: what the checks refuse and make sure of, and calls by profile and by an entry of a table. Assumes nothing.
-use Prim.Native.Nat.{ℕ, ◌*◌, ◌^◌, ◌≤◌, ◌<◌}
+use Prim.Native.Nat.{ℕ, ◌*◌, ◌^◌}
 use native.Mathlib.Omega.{arith}
 use mathlib.Core.Path.{◌≡◌, refl, sym, ap, ◌∙◌}
-use mathlib.Core.Bool.{true, false, false≢true}
+use mathlib.Core.Bool.{true, false≢true}
 use mathlib.Core.List.{List, ◌++◌}
 use lib.ListN.{length}
 use lib.IntN.{ℤ}
 use borrow.Author.Tests.{eqb-true, leb-true, ne_eqb}
 use Rattle.profiles.specs.declared.Profile.{Profile}
-use Rattle.profiles.specs.Profiles.{profile_of}
-use Rattle.tables.specs.declared.Slot.{Slot}
 use Rattle.tables.specs.declared.Table.{Table}
 use Rattle.tables.specs.Limits.{is_known}
 use Rattle.tables.specs.Slots.{slot_known}
-use Rattle.tables.specs.Tables.{entry_of, known, slot_of}
+use Rattle.tables.specs.Tables.{Slot, entry_of, held, is_there, known, none, slot_of, some}
 use Rattle.refusals.proofs.CheckLaws.{all_kept, code_passed, first_kept, number_pos, passed}
-use Rattle.refusals.specs.Refusals.{Check, answer_number, answer_place, area_kept, code_checks, first_refusal, number_of}
-use Rattle.refusals.specs.declared.Answer.{Answer}
-use Rattle.refusals.specs.declared.Answer.TheVariants.{Done, Refused as Refuses}
-use Rattle.refusals.specs.declared.Decoded.{Decoded}
-use Rattle.refusals.specs.declared.Decoded.TheVariants.{Refused}
+use Rattle.refusals.specs.Refusals.{Check, answer_number, answer_place, area_kept, code_checks, first_refusal, number_of, Answer, Decoded}
+use Rattle.std.specs.Prelude.{Ok, Err}
 use Rattle.refusals.specs.declared.Refusal.{Refusal}
 use Rattle.refusals.specs.declared.Refusal.TheVariants as refusal
 use Rattle.rule.specs.Decoding.{after, limit_checks, values}
 use Rattle.rule.proofs.DecodingLaws.{after_cases}
 use Rattle.rule.specs.Reading.{Outcome, refused}
 use Rattle.table_decoder.specs.TableLaws.{entry_passes, slot_says}
-use Rattle.confidences.proofs.AlikeLaws.{profile_limits, profile_none, table_limits, table_none}
-use Rattle.confidences.specs.Answers.{DecodesValues, confidence_call, confidence_profile_call, confidence_table_call, lowest_outside, value_checks, value_place}
+use Rattle.confidences.proofs.AlikeLaws.{table_limits, table_none}
+use Rattle.confidences.specs.Answers.{DecodesValues, confidence_call, confidence_table_call, lowest_outside, value_checks, value_place}
 use Rattle.confidences.proofs.Range.{range_tested}
 use Rattle.confidence_decoder.specs.Checked.{CheckedValues, outside_place}
 use Rattle.confidence_decoder.specs.Runs.{RunsValues}
@@ -40,14 +35,14 @@ unfolding value_place
 kept_place m r rounds x n h = rw (ne_eqb n 17 (λ e. false≢true (ap area_kept (sym e) ∙ h)))
 
 module _ {cs : List Check} {x : List ℤ} {a : Answer} (checked : CheckedValues cs x a) where
-  pub checks_passed : a ≡ Done → first_refusal cs ≡ 0
-  checks_passed e = sym checked.number ∙ ap answer_number e
+  pub values_passed : a ≡ Ok tt → first_refusal cs ≡ 0
+  values_passed e = sym checked.number ∙ ap answer_number e
 
-  pub checks_refused : {why : Refusal} (m r rounds : ℕ) (o : Outcome) (out : List ℕ) (xs : List ℤ) → all_kept cs ≡ true → a ≡ Refuses why
-      → DecodesValues m r rounds (after cs o) x out out xs xs (Refused why 0 0)
+  pub checks_refused : {why : Refusal} (m r rounds : ℕ) (o : Outcome) (out : List ℕ) (xs : List ℤ) → all_kept cs ≡ true → a ≡ Err why
+      → DecodesValues m r rounds (after cs o) x out out xs xs (Err record { why = why; rounds = 0; leaves = 0 })
   checks_refused {why} m r rounds o out xs all e =
       let n : first_refusal cs ≡ number_of why = sym checked.number ∙ ap answer_number e in
-      after_cases cs o (λ (y : Outcome). DecodesValues m r rounds y x out out xs xs (Refused why 0 0))
+      after_cases cs o (λ (y : Outcome). DecodesValues m r rounds y x out out xs xs (Err record { why = why; rounds = 0; leaves = 0 }))
       (λ z. absurd (omega (arith, number_pos why)))
       (λ some. record {
         answer = ap (λ (k : ℕ). values k 0 0 0) (sym n);
@@ -85,24 +80,9 @@ passed_runs m r rounds leaves x out xs e =
 -- ---- 14
 
 unknown_values : (m r rounds : ℕ) (x : List ℤ) (out : List ℕ) (xs : List ℤ)
-    → DecodesValues m r rounds (refused 14 0 0) x out out xs xs (Refused refusal.Profile 0 0)
+    → DecodesValues m r rounds (refused 14 0 0) x out out xs xs (Err record { why = refusal.Profile; rounds = 0; leaves = 0 })
 unfolding value_place
 unknown_values m r rounds x out xs = record { answer = refl; place = refl; output = refl; lent = refl }
-
--- ---- a profile
-
-module _ (number : ℕ) (x : List ℤ) (out : List ℕ) (xs : List ℤ) where
-  abbrev f : Profile
-  f = profile_of number
-
-  pub no_profile : 4 < number
-      → DecodesValues f.m f.r f.rounds (confidence_profile_call number x (length out) (length xs)) x out out xs xs (Refused refusal.Profile 0 0)
-  no_profile h = rw (profile_none number x (length out) (length xs) h) (unknown_values f.m f.r f.rounds x out xs)
-
-  pub profile_decodes : {p : Profile} {out' : List ℕ} {ys : List ℤ} {d : Decoded} → p ≡ f → number ≤ 4
-      → DecodesValues p.m p.r p.rounds (confidence_call p.m p.r p.rounds p.leaves x (length out) (length xs)) x out out' xs ys d
-      → DecodesValues f.m f.r f.rounds (confidence_profile_call number x (length out) (length xs)) x out out' xs ys d
-  profile_decodes e h c = rw (profile_limits number x (length out) (length xs) h) (rw e at c)
 
 -- ---- an entry of a table
 
@@ -110,16 +90,16 @@ module _ (t : Table) (number : ℕ) (x : List ℤ) (out : List ℕ) (xs : List �
   abbrev entry : Profile
   entry = entry_of t number
 
-  pub no_entry : s.known ≡ false
-      → DecodesValues entry.m entry.r entry.rounds (confidence_table_call t number x (length out) (length xs)) x out out xs xs (Refused refusal.Profile 0 0)
+  pub no_entry : s ≡ none
+      → DecodesValues entry.m entry.r entry.rounds (confidence_table_call t number x (length out) (length xs)) x out out xs xs (Err record { why = refusal.Profile; rounds = 0; leaves = 0 })
   no_entry e =
-      rw (table_none t number x (length out) (length xs) (sym (slot_says t number) ∙ ap (λ (y : Slot). y.known) (sym q) ∙ e))
+      rw (table_none t number x (length out) (length xs) (sym (slot_says t number) ∙ ap is_there (sym q ∙ e)))
       (unknown_values entry.m entry.r entry.rounds x out xs)
 
-  pub entry_decodes : {out' : List ℕ} {ys : List ℤ} {d : Decoded} → s.known ≡ true
-      → let p : Profile = s.profile in
-      DecodesValues p.m p.r p.rounds (confidence_call p.m p.r p.rounds p.leaves x (length out) (length xs)) x out out' xs ys d
+  pub entry_decodes : {p : Profile} {out' : List ℕ} {ys : List ℤ} {d : Decoded} → s ≡ some p
+      → DecodesValues p.m p.r p.rounds (confidence_call p.m p.r p.rounds p.leaves x (length out) (length xs)) x out out' xs ys d
       → DecodesValues entry.m entry.r entry.rounds (confidence_table_call t number x (length out) (length xs)) x out out' xs ys d
-  entry_decodes e c =
-      let k : known t number ≡ true = sym (slot_says t number) ∙ ap (λ (y : Slot). y.known) (sym q) ∙ e in
-      rw (table_limits t number x (length out) (length xs) k (entry_passes (is_known t number k).limits)) (rw (q ∙ slot_known t number k) at c)
+  entry_decodes {p} e c =
+      let k : known t number ≡ true = sym (slot_says t number) ∙ ap is_there (sym q ∙ e) in
+      let is : p ≡ entry = ap held (sym e ∙ q ∙ slot_known t number k) in
+      rw (table_limits t number x (length out) (length xs) k (entry_passes (is_known t number k).limits)) (rw is at c)

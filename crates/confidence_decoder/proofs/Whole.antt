@@ -7,18 +7,16 @@ use lib.ListN.{length, replicate}
 use lib.IntN.{ℤ, pos}
 use Rattle.words.specs.Written.{Written}
 use Rattle.area.specs.Area.{at}
-use Rattle.refusals.specs.declared.Decoded.{Decoded}
+use Rattle.refusals.specs.Refusals.{Decoded}
 use Rattle.rule.specs.Calls.{decoded_place, values_of}
 use Rattle.rule.specs.Decoding.{limited, output_of, refusal_of, zeros}
 use Rattle.rule.proofs.DecodingLaws.{limited_cases}
 use Rattle.rule.specs.Outcomes.{CodewordIn}
 use Rattle.rule.specs.Reading.{Outcome, refused}
-use Rattle.told.specs.Told.{noise_number}
+use Rattle.told.specs.Told.{Verdict, as_refused, noise_number}
 use Rattle.steps.specs.Answers.{Numbered, by_answer, limited_numbered}
 use Rattle.told.specs.declared.Noise.{Noise}
 use Rattle.told.specs.declared.Noise.TheVariants.{Erased, Flipping, Tie, TooManyLeaves, Unsettled}
-use Rattle.told.specs.declared.Verdict.{Verdict}
-use Rattle.told.specs.declared.Verdict.TheVariants.{Refused}
 use Rattle.delivery.specs.Delivery.{Deliverable, delivered, values_in}
 use Rattle.delivery.specs.DeliveryLaws as delivery
 use Rattle.delivery.specs.DeliveryLaws.{area_cleared, values_are}
@@ -45,7 +43,7 @@ codeword_in leaves r m rounds x =
 -- the place that a call names, by what its reading told
 module _ (m r rounds : ℕ) (x : List ℤ) where
   noise_place : (why : Noise) (k l p : ℕ) → p ≡ place_in (refused (noise_number why) k l) (zero_place r m rounds x)
-      → place_told p (Refused why k l) ≡ value_place m r rounds x (noise_number why)
+      → place_told p (as_refused why k l) ≡ value_place m r rounds x (noise_number why)
   unfolding value_place
   noise_place Tie k l p e = refl
   noise_place Flipping k l p e = refl
@@ -118,13 +116,13 @@ module _ {m r rounds leaves : ℕ} {x : List ℤ} {out : List ℕ} {xs ys us : L
     pub read_accepts : Accepts m out' a
     read_accepts =
         rw output_is
-        (by_answer (λ (b : Verdict) (y : Outcome). CodewordIn m r y → Accepts m (output_of y out) b) (λ d k l c. c.word) (λ why k l c. tt)
+        (by_answer (λ (b : Verdict) (y : Outcome). CodewordIn m r y → Accepts m (output_of y out) b) (λ d w c. c.word) (λ u c. tt)
         a o (numbered leaves r m rounds x) tells.read.said (codeword_in leaves r m rounds x))
 
     place_is : place_told e.place a ≡ value_place m r rounds x (refusal_of o)
     place_is =
         by_answer (λ (b : Verdict) (y : Outcome). e.place ≡ place_in y (zero_place r m rounds x) → place_told e.place b ≡ value_place m r rounds x (refusal_of y))
-        (λ d k l h. none_named m r rounds x) (λ why k l h. noise_place m r rounds x why k l e.place h)
+        (λ d w h. none_named m r rounds x) (λ u h. noise_place m r rounds x u.why u.rounds u.leaves e.place h)
         a o (numbered leaves r m rounds x) tells.read.said tells.place
 
     pub read_decodes : {zs : List ℤ} {d : Decoded} → zs ≡ zeros us

@@ -1,8 +1,7 @@
 -- What the checks of a call for confidences answer: document 02, request 2. Assumes nothing.
 use Rattle.std.specs.Prelude.{ℕ, ◌≡◌, Bool, cond, List, [], ◌∷◌, eqb, leb, ℤ, nat_abs, length}
 use Rattle.area.specs.Area.{at}
-use Rattle.refusals.specs.Refusals.{Check, check, answer_number, answer_place, first_refusal}
-use Rattle.refusals.specs.declared.Answer.{Answer}
+use Rattle.refusals.specs.Refusals.{Check, check, answer_number, answer_place, first_refusal, Answer}
 use Rattle.confidences.specs.Answers.{lowest_outside}
 use Rattle.confidences.specs.Confidences.{greatest}
 

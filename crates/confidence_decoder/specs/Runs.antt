@@ -1,8 +1,7 @@
 -- What a call that passed its checks asks, and what is told of its reading. Assumes nothing.
-use Rattle.std.specs.Prelude.{ℕ, ◌*◌, ◌^◌, ◌≤◌, ◌≡◌, List, length, ℤ}
+use Rattle.std.specs.Prelude.{ℕ, ◌*◌, ◌^◌, ◌≤◌, ◌≡◌, List, length, ℤ, Ok, Err}
 use Rattle.words.specs.Word.{IsWord}
-use Rattle.told.specs.declared.Verdict.{Verdict}
-use Rattle.told.specs.declared.Verdict.TheVariants.{Accepted, Refused}
+use Rattle.told.specs.Told.{Verdict}
 use Rattle.delivery.specs.Delivery.{noise_place}
 use Rattle.confidences.specs.InRange.{InRange}
 use Rattle.confidences.specs.Blocks.{IsBlock}
@@ -20,10 +19,10 @@ pub record RunsValues (m r leaves : ℕ) (x : List ℤ) (out : List ℕ) (area :
 
 -- where a word was accepted, the output v holds it
 abbrev pub Accepts : ℕ → List ℕ → Verdict → Type 0
-Accepts m v (Accepted k l) = IsWord m v
-Accepts m v (Refused why k l) = Unit {0}
+Accepts m v (Ok a) = IsWord m v
+Accepts m v (Err u) = Unit {0}
 
 -- the place that the answer names, which is p where a value ended as 0
 abbrev pub place_told : ℕ → Verdict → ℕ
-place_told p (Accepted k l) = 0
-place_told p (Refused why k l) = noise_place p why
+place_told p (Ok a) = 0
+place_told p (Err u) = noise_place p u.why

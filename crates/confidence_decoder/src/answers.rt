@@ -9,18 +9,14 @@ ghost use Rattle.confidences.specs.Blocks.{IsBlock};
 ghost use Rattle.confidence_decoder.specs.Runs.{Accepts, place_told};
 
 use delivery::refusal_of;
-use refusals::Decoded;
-use told::Verdict;
+use refusals::{Accepted, Refused};
 use value_orders::ends::Ended;
 
 // The bit that a confidence was received as: 0 counts as bit 0.
 fn bit_of(x: i16) -> u16
     ensures { result ≡ constant_of x }
 {
-    if x < 0 {
-        return 1;
-    }
-    0
+    u16::from(x < 0)
 }
 
 // The places where the word differs from the one received, counted in numbers as wide as the values: eight go together. The loop ends by the
@@ -30,29 +26,28 @@ fn mended(m: usize, values: &[i16], word: &[u8]) -> usize
     ensures { result ≡ distance m (signs_of m values.now) word.now }
 {
     let mut d = 0u16;
-    for p in 0..word.len() {
-        d += bit_of(values[p]) ^ (word[p] as u16);
+    for (p, w) in word.iter().enumerate() {
+        d += bit_of(values[p]) ^ u16::from(*w);
     }
-    d as usize
+    usize::from(d)
 }
 
 // The answer of a call that passed its checks.
-pub fn answered(ended: Ended, m: usize, values: &[i16], out: &[u8]) -> Decoded
+pub fn answered(ended: Ended, m: usize, values: &[i16], out: &[u8]) -> Result<Accepted, Refused>
     requires { (m ≤ 10) × IsBlock m values.now × Accepts m out.now ended.answer }
     ensures values { values_of result ≡ values_in m (signs_of m values.now) out.now ended.answer }
     ensures place { decoded_place result ≡ place_told ended.place ended.answer }
 {
-    let verdict = ended.answer;
-    match verdict {
-        Verdict::Accepted(rounds, leaves) => Decoded::Accepted(
-            rounds,
-            leaves,
-            mended(m, values, out),
-        ),
-        Verdict::Refused(noise, rounds, leaves) => Decoded::Refused(
-            refusal_of(noise, ended.place),
-            rounds,
-            leaves,
-        ),
+    match ended.answer {
+        Ok(read) => Ok(Accepted {
+            rounds: read.rounds,
+            leaves: read.leaves,
+            mended: mended(m, values, out),
+        }),
+        Err(unread) => Err(Refused {
+            why: refusal_of(unread.why, ended.place),
+            rounds: unread.rounds,
+            leaves: unread.leaves,
+        }),
     }
 }

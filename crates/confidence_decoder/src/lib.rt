@@ -2,13 +2,13 @@
 #![tactic(auto)]
 
 ghost use Rattle.std.specs.Prelude.{length};
-ghost use Rattle.profiles.specs.Profiles.{profile_of};
 ghost use Rattle.tables.specs.Tables.{entry_of};
-ghost use Rattle.confidences.specs.Answers.{confidence_call, confidence_profile_call, confidence_table_call, DecodesValues};
+ghost use Rattle.confidences.specs.Answers.{confidence_call, confidence_table_call, DecodesValues};
 
-use refusals::{Answer, Decoded, Refusal};
+use profiles::Profile;
+use refusals::{Accepted, Refusal, Refused};
 use runs::run;
-use tables::Table;
+use tables::Profiles;
 
 mod answers;
 pub mod both;
@@ -24,46 +24,29 @@ pub fn decode_confidences(
     values: &[i16],
     out: &mut [u8],
     area: &mut [i32],
-) -> Decoded
+) -> Result<Accepted, Refused>
     ensures { DecodesValues m r rounds (confidence_call m r rounds leaves values.now (length out.old) (length area.old)) values.now out.old out.new area.old area.new result }
 {
-    let checked = value_checks::call(m, r, rounds, leaves, values, out.len(), area.len());
-    match checked {
-        Answer::Refused(why) => Decoded::Refused(why, 0, 0),
-        Answer::Done => run(m, r, rounds, leaves, values, out, area),
-    }
+    let by = Profile {
+        m,
+        r,
+        rounds,
+        leaves,
+    };
+    value_checks::call(by, values, out.len(), area.len())?;
+    run(by, values, out, area)
 }
 
-// Decodes confidences under the limits of a profile.
-pub fn decode_confidences_profile(
-    profile: usize,
-    values: &[i16],
-    out: &mut [u8],
-    area: &mut [i32],
-) -> Decoded
-    ensures { DecodesValues (profile_of profile).m (profile_of profile).r (profile_of profile).rounds (confidence_profile_call profile values.now (length out.old) (length area.old)) values.now out.old out.new area.old area.new result }
-{
-    if 4 < profile {
-        return Decoded::Refused(Refusal::Profile, 0, 0);
-    }
-    let p = profiles::by_number(profile);
-    decode_confidences(p.m, p.r, p.rounds, p.leaves, values, out, area)
-}
-
-// Decodes confidences under the limits of a table's entry.
-pub fn decode_confidences_table(
-    table: Table,
+// Decodes confidences under the limits of an entry of a table, or of document 01's.
+pub fn decode_confidences_table<P: Profiles>(
+    profiles: &P,
     number: usize,
     values: &[i16],
     out: &mut [u8],
     area: &mut [i32],
-) -> Decoded
-    ensures { DecodesValues (entry_of table number).m (entry_of table number).r (entry_of table number).rounds (confidence_table_call table number values.now (length out.old) (length area.old)) values.now out.old out.new area.old area.new result }
+) -> Result<Accepted, Refused>
+    ensures { DecodesValues (entry_of (P.table profiles.now) number).m (entry_of (P.table profiles.now) number).r (entry_of (P.table profiles.now) number).rounds (confidence_table_call (P.table profiles.now) number values.now (length out.old) (length area.old)) values.now out.old out.new area.old area.new result }
 {
-    let slot = tables::look(table, number);
-    if !slot.known {
-        return Decoded::Refused(Refusal::Profile, 0, 0);
-    }
-    let p = slot.profile;
+    let p = profiles.look(number).ok_or(Refusal::Profile)?;
     decode_confidences(p.m, p.r, p.rounds, p.leaves, values, out, area)
 }

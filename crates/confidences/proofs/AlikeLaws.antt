@@ -8,9 +8,8 @@ use Rattle.profiles.specs.Profiles.{profile_of}
 use Rattle.tables.specs.declared.Table.{Table}
 use Rattle.tables.specs.Tables.{entry_of, known, ours}
 use Rattle.tables.specs.Limits.{ours_entry, ours-known}
-use Rattle.refusals.specs.declared.Decoded.{Decoded}
+use Rattle.refusals.specs.Refusals.{Decoded, check, code_checks, first_refusal}
 use Rattle.refusals.proofs.CheckLaws.{fails, passes, then}
-use Rattle.refusals.specs.Refusals.{check, code_checks, first_refusal}
 use Rattle.rule.specs.Decoding.{after, answer_of, limit_checks, limited, number_in, output_of, refusal_of}
 use Rattle.rule.proofs.DecodingLaws.{after_same, number_is}
 use Rattle.rule.specs.Demand3.{Agree, Sound}

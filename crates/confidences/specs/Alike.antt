@@ -2,7 +2,7 @@
 use Rattle.std.specs.Prelude.{ℕ, ◌*◌, ◌^◌, ◌≤◌, ◌≡◌, List, ℤ}
 use Rattle.words.specs.Word.{add_words}
 use Rattle.code.specs.Code.{IsCodeword}
-use Rattle.refusals.specs.declared.Decoded.{Decoded}
+use Rattle.refusals.specs.Refusals.{Decoded}
 use Rattle.rule.specs.Decoding.{Values, values, number_in}
 use Rattle.rule.specs.Calls.{values_of, decoded_place}
 use Rattle.confidences.specs.Confidences.{negated}

@@ -4,8 +4,7 @@ use Rattle.words.specs.Sum.{first_where}
 use Rattle.area.specs.Area.{at}
 use Rattle.profiles.specs.declared.Profile.{Profile}
 use Rattle.profiles.specs.Profiles.{profile_of}
-use Rattle.refusals.specs.Refusals.{Check, check, code_checks}
-use Rattle.refusals.specs.declared.Decoded.{Decoded}
+use Rattle.refusals.specs.Refusals.{Check, check, code_checks, Decoded}
 use Rattle.tables.specs.declared.Table.{Table}
 use Rattle.tables.specs.Tables.{entry_of, known}
 use Rattle.rule.specs.Reading.{Outcome}

@@ -2,7 +2,8 @@
 use Rattle.std.specs.Prelude.{ℕ, ◌+◌, ◌^◌, ◌≤◌, ◌<◌, ◌≡◌, List, ℤ, length}
 use Rattle.std.proofs.Common.{◌∙◌, ⊎_elim, arith, pow_mono}
 use Rattle.area.specs.Area.{at}
-use Rattle.words.specs.Levels.{Transformed, transformed_all, transformed_length}
+use Rattle.words.specs.Butterflies.{BlocksDone, halved}
+use Rattle.words.specs.Levels.{Transformed, transformed_all, transformed_blocks, transformed_length}
 use Rattle.words.specs.Sum.{tabulate}
 use Rattle.words.specs.SumLaws.{le_or_lt}
 use Rattle.hadamard.specs.Correlation.{correlation}
@@ -13,6 +14,10 @@ use Rattle.hadamard.specs.Transform.{sums, summable_entries, halved-correlation}
 pub record Blockwise (h m : ℕ) (x a : List ℤ) : Type 0 where
   pub summable : Summable m x
   pub transformed : Transformed sums m h x a
+
+-- blocks of 4 are begun
+pub fours_begun : {m : ℕ} {x a : List ℤ} → Summable m x → 2 ≤ m → BlocksDone (halved sums 2) 4 (length x) x a → Blockwise 4 m x a
+fours_begun s l d = record { summable = s; transformed = transformed_blocks sums (summable_entries s) 2 l d }
 
 -- of some numbers
 pub record Begun (h : ℕ) (a : List ℤ) : Type 0 where

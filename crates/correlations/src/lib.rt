@@ -11,7 +11,8 @@ ghost use Rattle.hadamard.specs.Transform.{sums};
 ghost use Rattle.correlations.specs.Begun.{Begun, Blockwise, End};
 ghost use Rattle.correlations.specs.Halves.{HalvesDone};
 
-use hadamard::{butterfly, level, two};
+use hadamard::Sum;
+use transforms::{butterfly, each_block, level, two};
 use twice::two_levels;
 
 mod twice;
@@ -42,7 +43,7 @@ pub fn eight(a: &mut [i32])
 {
     four(&mut a[0..4]);
     four(&mut a[4..8]);
-    butterfly(a, 4);
+    butterfly::<_, Sum>(a, 4);
 }
 
 // The transform of each block of 4 numbers.
@@ -50,13 +51,7 @@ fn fours(a: &mut [i32])
     requires { Blocked sums 4 2 a.old }
     ensures { BlocksDone (halved sums 2) 4 (length a.old) a.old a.new }
 {
-    let n = a.len();
-    let mut b = 0;
-    while b < n {
-        let e = b + 4;
-        four(&mut a[b..e]);
-        b = e;
-    }
+    each_block(a, 4, |b| four(b));
 }
 
 // The transform of each block of 8 numbers.
@@ -64,13 +59,7 @@ fn eights(a: &mut [i32])
     requires { Blocked sums 8 3 a.old }
     ensures { BlocksDone (halved sums 3) 8 (length a.old) a.old a.new }
 {
-    let n = a.len();
-    let mut b = 0;
-    while b < n {
-        let e = b + 8;
-        eight(&mut a[b..e]);
-        b = e;
-    }
+    each_block(a, 8, |b| eight(b));
 }
 
 // The levels from the blocks of `first` numbers to those of `end`, one at a time.
@@ -78,9 +67,10 @@ pub fn levels(a: &mut [i32], first: usize, end: usize)
     requires { Begun first a.old × End first end a.old }
     ensures { (m : ℕ) (x : List ℤ) → Blockwise first m x a.old → Blockwise end m x a.new }
 {
+    // By hand: the blocks double, and a range counts by one.
     let mut h = first;
     while h < end {
-        level(a, h);
+        level::<_, Sum>(a, h);
         h = h + h;
     }
 }
@@ -117,7 +107,7 @@ pub fn correlate(a: &mut [i32], m: usize)
         return;
     }
     if m == 1 {
-        two(a);
+        two::<_, Sum>(a);
         return;
     }
     if m == 3 {
@@ -140,7 +130,7 @@ pub fn correlate_halves(a: &mut [i32], k: usize)
         return;
     }
     if k == 1 {
-        level(a, 1);
+        level::<_, Sum>(a, 1);
         return;
     }
     if k == 3 {

@@ -4,13 +4,15 @@ ghost use Rattle.words.specs.Butterflies.{Entries, Blocked, BlocksDone};
 ghost use Rattle.hadamard.specs.Transform.{sums};
 ghost use Rattle.correlations.specs.Twice.{twice};
 
-// Of four parts of h numbers: the sums and differences of the first two and of the last two, then theirs, in place.
+use transforms::each_block;
+
+// Of four parts of h numbers: the sums and differences of the first two and of the last two, then theirs, in place. By
+// index: an entry stands in each of four parts of one slice.
 fn two_butterflies(a: &mut [i32], h: usize)
     requires { Entries sums (4 * h) 2 a.old }
     ensures { a.new ≡ twice sums h a.old }
 {
-    let mut i = 0;
-    while i < h {
+    for i in 0..h {
         let x = a[i];
         let y = a[h + i];
         let z = a[2 * h + i];
@@ -23,7 +25,6 @@ fn two_butterflies(a: &mut [i32], h: usize)
         a[h + i] = d + e;
         a[2 * h + i] = s - t;
         a[3 * h + i] = d - e;
-        i += 1;
     }
 }
 
@@ -32,12 +33,5 @@ pub fn two_levels(a: &mut [i32], h: usize)
     requires { Blocked sums (4 * h) 2 a.old }
     ensures { BlocksDone (twice sums h) (4 * h) (length a.old) a.old a.new }
 {
-    let n = a.len();
-    let s = 4 * h;
-    let mut b = 0;
-    while b < n {
-        let e = b + s;
-        two_butterflies(&mut a[b..e], h);
-        b = e;
-    }
+    each_block(a, 4 * h, |b| two_butterflies(b, h));
 }

@@ -1,5 +1,4 @@
 // Projection and votes in the area, coset by coset.
-// The loops test q != n: of q < n, n a power of 2, the compiler makes a shift in every turn.
 #![tactic(auto)]
 
 ghost use Rattle.std.specs.Prelude.{suc, ◌+◌, ◌*◌, ◌^◌, pos, ◌+ℤ◌};
@@ -18,11 +17,9 @@ pub fn project_each(m: usize, b: usize, area: &mut [i32])
 {
     let n = words::size(m);
     let h = highest_bit(b);
-    let mut q = 0;
-    while q != n {
+    for q in 0..n {
         let p = insert_zero(h, q);
         area[4 * n + q] = area[p] ^ area[p ^ b];
-        q += 1;
     }
 }
 
@@ -35,12 +32,10 @@ pub fn vote_each(m: usize, b: usize, area: &mut [i32])
 {
     let n = words::size(m);
     let h = highest_bit(b);
-    let mut q = 0;
-    while q != n {
+    for q in 0..n {
         let p = insert_zero(h, q);
         let vote = area[4 * n + q] ^ (area[p] ^ area[p ^ b]);
         area[2 * n + p] += vote;
         area[2 * n + (p ^ b)] += vote;
-        q += 1;
     }
 }

@@ -5,74 +5,100 @@ ghost use Rattle.std.specs.Prelude.{◌+◌, ◌≤◌, ◌++◌, length};
 ghost use Rattle.rule.specs.Calls.{values_of};
 ghost use Rattle.rule.specs.Decoding.{values};
 ghost use Rattle.text.specs.Numbers.{ten_digits};
-ghost use Rattle.text.specs.Texts.{Appended};
+ghost use Rattle.text.specs.Texts.{Appended, Added};
 ghost use Rattle.crew.specs.Crew.{crew_refusal, numbers_text, serial_text, spaced};
 
-use refusals::Decoded;
+use refusals::{Accepted, Refused};
+use text::Writer;
 
 // A space, and a number in decimal.
-fn put_spaced(n: usize, out: &mut [u8], at: usize) -> usize
-    requires { at + 21 ≤ length out.old }
-    ensures { Appended out.old at (spaced n) result out.new × (result ≤ at + 21) }
+fn put_spaced(w: &mut Writer, n: usize)
+    requires { w.old.at + 21 ≤ length w.old.out.now }
+    ensures text { Added (spaced n) w.old w.new }
+    ensures ends { w.new.at ≤ w.old.at + 21 }
 {
-    let a = text::put_byte(32, out, at);
-    text::put_decimal(n as u64, out, a)
+    w.put_byte(32);
+    w.put_decimal(n as u64);
 }
 
 // The five numbers after the serial, and the end of the line.
 fn put_numbers(
+    w: &mut Writer,
     profile: usize,
     rounds: usize,
     leaves: usize,
     mended: usize,
     refusal: u8,
-    out: &mut [u8],
-    at: usize,
-) -> usize
-    requires { at + 106 ≤ length out.old }
-    ensures { Appended out.old at (numbers_text profile (values refusal rounds leaves mended)) result out.new }
+)
+    requires { w.old.at + 106 ≤ length w.old.out.now }
+    ensures { Added (numbers_text profile (values refusal rounds leaves mended)) w.old w.new }
 {
-    let a = put_spaced(profile, out, at);
-    let b = put_spaced(rounds, out, a);
-    let c = put_spaced(leaves, out, b);
-    let d = put_spaced(mended, out, c);
-    let e = put_spaced(refusal as usize, out, d);
-    text::put_byte(10, out, e)
+    put_spaced(w, profile);
+    put_spaced(w, rounds);
+    put_spaced(w, leaves);
+    put_spaced(w, mended);
+    put_spaced(w, usize::from(refusal));
+    w.put_byte(10);
 }
 
-// The line of a record, by its profile's number and the decoder's answer.
-pub fn record_line(serial: u32, number: usize, answer: Decoded, out: &mut [u8], at: usize) -> usize
-    requires { at + 116 ≤ length out.old }
-    ensures { Appended out.old at (ten_digits serial ++ numbers_text number (values_of answer)) result out.new }
+// The serial, and what the decoder answered.
+fn put_record(w: &mut Writer, serial: u32, number: usize, answer: Result<Accepted, Refused>)
+    requires { w.old.at + 116 ≤ length w.old.out.now }
+    ensures { Added (ten_digits serial ++ numbers_text number (values_of answer)) w.old w.new }
 {
-    let a = text::put_ten(serial, out, at);
+    w.put_ten(serial);
     match answer {
-        Decoded::Accepted(rounds, leaves, mended) => put_numbers(
-            number, rounds, leaves, mended, 0, out, a,
-        ),
-        Decoded::Refused(why, rounds, leaves) => {
-            let refusal = refusals::number(why);
-            put_numbers(number, rounds, leaves, 0, refusal, out, a)
+        Ok(read) => put_numbers(w, number, read.rounds, read.leaves, read.mended, 0),
+        Err(refused) => {
+            let refusal = refusals::number(refused.why);
+            put_numbers(w, number, refused.rounds, refused.leaves, 0, refusal);
         }
     }
 }
 
-// The serial of a refusal of the capture reader: 16 has ten hyphens in its place.
-fn put_serial(refusal: u8, serial: u32, out: &mut [u8], at: usize) -> usize
-    requires { at + 10 ≤ length out.old }
-    ensures { Appended out.old at (serial_text refusal serial) result out.new }
+// The line of a record, by its profile's number and the decoder's answer.
+pub fn record_line(
+    serial: u32,
+    number: usize,
+    answer: Result<Accepted, Refused>,
+    out: &mut [u8],
+    at: usize,
+) -> usize
+    requires { at + 116 ≤ length out.old }
+    ensures { Appended out.old at (ten_digits serial ++ numbers_text number (values_of answer)) result out.new }
 {
-    if refusal == 16 {
-        return text::put_text(b"----------", out, at);
-    }
-    text::put_ten(serial, out, at)
+    let mut w = Writer { out, at };
+    put_record(&mut w, serial, number, answer);
+    w.at
 }
 
-// The line of a refusal of the capture reader, by its number.
+// The serial of a refusal of the capture reader: 16 has ten hyphens in its place.
+fn put_serial(w: &mut Writer, refusal: u8, serial: u32)
+    requires { w.old.at + 10 ≤ length w.old.out.now }
+    ensures { Added (serial_text refusal serial) w.old w.new }
+{
+    if refusal == 16 {
+        w.put_text(b"----------");
+    } else {
+        w.put_ten(serial);
+    }
+}
+
+// The serial, and the refusal with no other number.
+fn put_refused(w: &mut Writer, refusal: u8, serial: u32)
+    requires { w.old.at + 116 ≤ length w.old.out.now }
+    ensures { Added (crew_refusal refusal serial) w.old w.new }
+{
+    put_serial(w, refusal, serial);
+    put_numbers(w, 0, 0, 0, 0, refusal);
+}
+
+// The line of a refusal of the capture reader, by its number, for any number.
 pub fn refusal_line(refusal: u8, serial: u32, out: &mut [u8], at: usize) -> usize
     requires { at + 116 ≤ length out.old }
     ensures { Appended out.old at (crew_refusal refusal serial) result out.new }
 {
-    let a = put_serial(refusal, serial, out, at);
-    put_numbers(0, 0, 0, 0, refusal, out, a)
+    let mut w = Writer { out, at };
+    put_refused(&mut w, refusal, serial);
+    w.at
 }

@@ -12,12 +12,9 @@ use Rattle.words.specs.Written.{Written}
 use Rattle.area.specs.Area.{at, Front, word_of}
 use Rattle.area.proofs.AreaLaws.{front_bits, front_word, word_of_same}
 use Rattle.refusals.proofs.CheckLaws.{all_kept, code_passed, first_kept, next, number_pos, other_place, passed, rest_passes}
-use Rattle.refusals.specs.Refusals.{Check, Checked, answer_number, answer_place, code_checks, first_refusal, number_of}
+use Rattle.refusals.specs.Refusals.{Check, Checked, answer_number, answer_place, code_checks, first_refusal, number_of, Answer, Decoded}
 use Rattle.refusals.specs.declared.Refusal.{Refusal}
-use Rattle.refusals.specs.declared.Answer.{Answer}
-use Rattle.refusals.specs.declared.Answer.TheVariants.{Done, Refused as Refuses}
-use Rattle.refusals.specs.declared.Decoded.{Decoded}
-use Rattle.refusals.specs.declared.Decoded.TheVariants.{Refused}
+use Rattle.std.specs.Prelude.{Err}
 use Rattle.profiles.specs.declared.Profile.{Profile}
 use Rattle.profiles.specs.Profiles.{profile_of}
 use Rattle.hadamard.specs.Correlation.{values as signs}
@@ -29,10 +26,9 @@ use Rattle.rule.specs.Calls.{Decodes, decoded_place, values_of}
 use Rattle.rule.proofs.Covariance.{reading_in}
 use Rattle.rule.specs.Outcomes.{CodewordIn}
 use Rattle.rule.proofs.Counts.{leaf_leaves, reading_leaf}
-use Rattle.told.specs.Told.{numbers_of, numbers_in, Holds, Kept, Read}
+use Rattle.told.specs.Told.{Verdict, numbers_of, numbers_in, Holds, Kept, Read}
 use Rattle.told.specs.declared.Told.{Told}
 use Rattle.told.specs.ToldLaws.{noise_number_lem}
-use Rattle.told.specs.declared.Verdict.{Verdict}
 use Rattle.direct.specs.Direct.{Readable, Gives}
 use Rattle.readings.specs.Readings.{Ready}
 use Rattle.delivery.specs.Delivery.{Deliverable, delivered, values_in}
@@ -141,14 +137,14 @@ module _ {m r rounds leaves : ℕ} {word out : List ℕ} {xs : List ℤ} (runs :
 -- ---- a call: its answer from the reading's, the area cleared
 
 not_8 : (a : Verdict) (o : Outcome) → Numbered o → numbers_in a ≡ numbers_of o → refusal_of o ≡ 8 → ⊥
-not_8 = by_answer (λ (x : Verdict) (y : Outcome). refusal_of y ≡ 8 → ⊥) (λ d k l z. omega arith) (λ why k l z. omega (arith, noise_number_lem why))
+not_8 = by_answer (λ (x : Verdict) (y : Outcome). refusal_of y ≡ 8 → ⊥) (λ d w z. omega arith) (λ u z. omega (arith, noise_number_lem u.why))
 
 module _ (m : ℕ) (word out : List ℕ) where
   delivers : (r : ℕ) (kept : Bool) (a : Verdict) (o : Outcome) → Numbered o → numbers_in a ≡ numbers_of o
       → CodewordIn m r o → (kept ≡ true → output_of o word ≡ word) → Delivered m word (output_of o out) kept a
   delivers r kept =
       by_answer (λ (x : Verdict) (y : Outcome). CodewordIn m r y → (kept ≡ true → output_of y word ≡ word) → Delivered m word (output_of y out) kept x)
-      (λ d k l c g. (c.word, g)) (λ why k l c g. tt)
+      (λ d w c g. (c.word, g)) (λ u c g. tt)
 
 module _ {m r rounds leaves : ℕ} {word out : List ℕ} {xs : List ℤ} (runs : Runs m r rounds leaves word out xs) where
   abbrev result : Outcome
@@ -180,14 +176,11 @@ module _ {m r rounds leaves : ℕ} {word out : List ℕ} {xs : List ℤ} (runs :
 -- ---- the checks
 
 module _ {cs : List Check} {word : List ℕ} {a : Answer} (checked : Checked cs word a) where
-  pub checks_passed : a ≡ Done → first_refusal cs ≡ 0
-  checks_passed e = sym checked.number ∙ ap answer_number e
-
-  pub checks_refused : {why : Refusal} (m : ℕ) (o : Outcome) (out : List ℕ) (xs : List ℤ) → all_kept cs ≡ true → a ≡ Refuses why
-      → Decodes m (after cs o) word out out xs xs (Refused why 0 0)
+  pub checks_refused : {why : Refusal} (m : ℕ) (o : Outcome) (out : List ℕ) (xs : List ℤ) → all_kept cs ≡ true → a ≡ Err why
+      → Decodes m (after cs o) word out out xs xs (Err record { why = why; rounds = 0; leaves = 0 })
   checks_refused {why} m o out xs all e =
       let n : first_refusal cs ≡ number_of why = sym checked.number ∙ ap answer_number e in
-      after_cases cs o (λ (x : Outcome). Decodes m x word out out xs xs (Refused why 0 0))
+      after_cases cs o (λ (x : Outcome). Decodes m x word out out xs xs (Err record { why = why; rounds = 0; leaves = 0 }))
       (λ z. absurd (omega (arith, number_pos why)))
       (λ some. record {
         answer = ap (λ (k : ℕ). values k 0 0 0) (sym n);

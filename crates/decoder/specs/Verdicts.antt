@@ -1,14 +1,13 @@
 -- What counting the places mended asks. Assumes nothing.
-use Rattle.std.specs.Prelude.{ℕ, ◌≡◌, Bool, true, List}
+use Rattle.std.specs.Prelude.{ℕ, ◌≡◌, Bool, true, List, Ok, Err}
 use Rattle.words.specs.Word.{IsWord}
+use Rattle.told.specs.Told.{Verdict}
 use Rattle.told.specs.declared.Told.{Told}
-use Rattle.told.specs.declared.Verdict.{Verdict}
-use Rattle.told.specs.declared.Verdict.TheVariants.{Accepted, Refused}
 
 -- where a word was accepted, the output v holds it, and it is the word given where that was kept
 abbrev pub Delivered : ℕ → List ℕ → List ℕ → Bool → Verdict → Type 0
-Delivered m w v kept (Accepted k l) = IsWord m v × (kept ≡ true → v ≡ w)
-Delivered m w v kept (Refused why k l) = Unit {0}
+Delivered m w v kept (Ok a) = IsWord m v × (kept ≡ true → v ≡ w)
+Delivered m w v kept (Err u) = Unit {0}
 
 -- what counting the places mended asks
 pub record Mendable (m : ℕ) (w v : List ℕ) (t : Told) : Type 0 where

@@ -6,7 +6,7 @@ ghost use Rattle.profiles.specs.Profiles.{profile_of};
 ghost use Rattle.rule.specs.Decoding.{decode_call, decode_profile_call};
 ghost use Rattle.rule.specs.Calls.{Decodes};
 
-use refusals::{Answer, Decoded, Refusal};
+use refusals::{Accepted, Refusal, Refused};
 use runs::run;
 
 mod answers;
@@ -21,28 +21,26 @@ pub fn decode(
     word: &[u8],
     out: &mut [u8],
     area: &mut [i32],
-) -> Decoded
+) -> Result<Accepted, Refused>
     ensures { Decodes m (decode_call m r rounds leaves word.now (length out.old) (length area.old)) word.now out.old out.new area.old area.new result }
 {
-    let checked = checks::call(m, r, rounds, leaves, word, out.len(), area.len());
-    match checked {
-        Answer::Refused(why) => Decoded::Refused(why, 0, 0),
-        Answer::Done => run(m, r, rounds, leaves, word, out, area),
-    }
+    checks::call(m, r, rounds, leaves, word, out.len(), area.len())?;
+    run(m, r, rounds, leaves, word, out, area)
 }
 
-// Decodes a block under the limits of a profile.
-pub fn decode_profile(profile: usize, word: &[u8], out: &mut [u8], area: &mut [i32]) -> Decoded
+// Decodes a block under the limits of a profile. Beside `decode_table`, since document 01's rows pass checks 1 to 4: only 5 to 8 are made.
+pub fn decode_profile(
+    profile: usize,
+    word: &[u8],
+    out: &mut [u8],
+    area: &mut [i32],
+) -> Result<Accepted, Refused>
     ensures { Decodes (profile_of profile).m (decode_profile_call profile word.now (length out.old) (length area.old)) word.now out.old out.new area.old area.new result }
 {
     if 4 < profile {
-        return Decoded::Refused(Refusal::Profile, 0, 0);
+        return Err(Refused::from(Refusal::Profile));
     }
     let p = profiles::by_number(profile);
-    let m = p.m;
-    let checked = checks::buffers(m, word, out.len(), area.len());
-    match checked {
-        Answer::Refused(why) => Decoded::Refused(why, 0, 0),
-        Answer::Done => run(m, p.r, p.rounds, p.leaves, word, out, area),
-    }
+    checks::buffers(p.m, word, out.len(), area.len())?;
+    run(p.m, p.r, p.rounds, p.leaves, word, out, area)
 }

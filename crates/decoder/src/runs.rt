@@ -8,33 +8,26 @@ ghost use Rattle.decoder.specs.Runs.{Runs};
 
 use crate::answers::answered;
 use delivery::deliver;
+use profiles::Profile;
 use readings::reading;
-use refusals::Decoded;
+use refusals::{Accepted, Refused};
 use told::Told;
 
 // A call that passed its checks, read in the area.
-fn run_in_area(
-    m: usize,
-    r: usize,
-    rounds: usize,
-    leaves: usize,
-    word: &[u8],
-    out: &mut [u8],
-    area: &mut [i32],
-) -> Told
-    requires { Runs m r rounds leaves word.now out.old area.old }
-    ensures given { Gives (limited leaves (Rattle.rule.specs.Reading.reading r m rounds word.now)) word.now out.old out.new result }
+fn run_in_area(by: Profile, word: &[u8], out: &mut [u8], area: &mut [i32]) -> Told
+    requires { Runs by.m by.r by.rounds by.leaves word.now out.old area.old }
+    ensures given { Gives (limited by.leaves (Rattle.rule.specs.Reading.reading by.r by.m by.rounds word.now)) word.now out.old out.new result }
     ensures cleared { area.new ≡ zeros area.old }
 {
     area::load(word, area);
-    let told = reading(m, r, rounds, leaves, area);
-    let answer = told.answer;
-    deliver(answer, area, out);
+    let told = reading(by.m, by.r, by.rounds, by.leaves, area);
+    deliver(told.answer, area, out);
     area::fill(area, 0);
     told
 }
 
 // A call that passed its checks: a block of order 1 with 32 to 128 places goes from its bytes to the output's, any other through the area.
+// Numbers, no Profile: array_lines calls it, and docs/ARCHITECTURE.md names it.
 pub fn run(
     m: usize,
     r: usize,
@@ -43,18 +36,20 @@ pub fn run(
     word: &[u8],
     out: &mut [u8],
     area: &mut [i32],
-) -> Decoded
+) -> Result<Accepted, Refused>
     requires { Runs m r rounds leaves word.now out.old area.old }
     ensures { Decodes m (limited leaves (Rattle.rule.specs.Reading.reading r m rounds word.now)) word.now out.old out.new area.old area.new result }
 {
-    if r == 1 {
-        if 4 < m {
-            if m < 8 {
-                let told = direct::read_block(m, word, out, area);
-                return answered(told, m, word, out);
-            }
-        }
+    if r == 1 && 4 < m && m < 8 {
+        let told = direct::read_block(m, word, out, area);
+        return answered(told, m, word, out);
     }
-    let told = run_in_area(m, r, rounds, leaves, word, out, area);
+    let by = Profile {
+        m,
+        r,
+        rounds,
+        leaves,
+    };
+    let told = run_in_area(by, word, out, area);
     answered(told, m, word, out)
 }

@@ -7,22 +7,19 @@ ghost use Rattle.told.specs.Told.{noise_number};
 ghost use Rattle.delivery.specs.Delivery.{Deliverable, delivered, noise_place};
 
 use refusals::Refusal;
-use told::{Noise, Verdict};
+use told::{Accepted, Noise, Unread};
 
 // The decoded word, where there is one, to the output.
-pub fn deliver(answer: Verdict, area: &[i32], out: &mut [u8])
+pub fn deliver(answer: Result<Accepted, Unread>, area: &[i32], out: &mut [u8])
     requires { Deliverable (length out.old) answer area.now }
     ensures { out.new ≡ delivered answer out.old area.now }
 {
-    match answer {
-        Verdict::Accepted(_, _) => {
-            area::store(area, out);
-        }
-        Verdict::Refused(_, _, _) => {}
+    if answer.is_ok() {
+        area::store(area, out);
     }
 }
 
-// The refusal of a call whose reading gives no word, with the place where a value ended as 0.
+// The refusal of a call whose reading gives no word, with the place where a value ended as 0. No `From`: the place is not part of the noise.
 pub fn refusal_of(noise: Noise, place: usize) -> Refusal
     ensures { (number_of result ≡ noise_number noise) × (place_of result ≡ noise_place place noise) }
 {

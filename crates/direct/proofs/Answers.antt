@@ -4,6 +4,7 @@ use mathlib.Core.Path.{◌≡◌, refl, sym, ap, subst, ◌∙◌}
 use mathlib.Core.Bool.{true, false}
 use mathlib.Core.List.{List}
 use native.Mathlib.Omega.{arith}
+use Rattle.std.specs.Prelude.{Option, Some, None}
 use lib.IntN.{ℤ, nat_abs}
 use lib.ListN.{length, take}
 use lib.Pow.{pow_mono}
@@ -23,11 +24,10 @@ use Rattle.code.specs.Code.{codeword_test}
 use Rattle.code.proofs.Codewords.{codeword_of_test}
 use Rattle.rule.specs.Reading.{order1}
 use Rattle.rule.proofs.Nearest.{order1_codeword}
-use Rattle.told.specs.Told.{numbers_in}
+use Rattle.told.specs.Told.{as_accepted, as_refused, numbers_in}
 use Rattle.told.specs.ToldLaws.{changed_kept}
 use Rattle.told.specs.declared.Told.{Told}
 use Rattle.told.specs.declared.Noise.TheVariants.{Tie}
-use Rattle.told.specs.declared.Verdict.TheVariants.{Accepted, Refused}
 use Rattle.order_one.specs.OrderOne.{PeakOf, nearest, order1_tie, order1-nearest, constant_bit}
 use Rattle.block_peak.specs.Sought.{value_at, Sought}
 use Rattle.direct.specs.Direct.{Readable, Gives}
@@ -63,8 +63,8 @@ module _ {m : ℕ} {word out : List ℕ} {area : List ℤ} (r : Readable m word 
     pub quads_sought : Sought (q + q) (take (q - 0) ys)
     quads_sought = block_sought quads_are (q + q) (omega arith)
 
-    pub quads_peak : {p : Peak} → IsPeak (q + q + (q + q)) (value_at (take (q - 0) ys)) p → PeakOf m word p
-    quads_peak {p} s = subst (λ (i : ℕ). PeakOf i word p) exponent (block_peak quads_are (q + q) (omega arith) s)
+    pub quads_peak : {o : Option Peak} → IsPeak (q + q + (q + q)) (value_at (take (q - 0) ys)) o → PeakOf m word o
+    quads_peak {o} s = subst (λ (i : ℕ). PeakOf i word o) exponent (block_peak quads_are (q + q) (omega arith) s)
 
   sixteens : length out % 16 ≡ 0
   sixteens =
@@ -72,33 +72,33 @@ module _ {m : ℕ} {word out : List ℕ} {area : List ℤ} (r : Readable m word 
       omega (arith, r.output, ap (λ (i : ℕ). 2 ^ i) e)
 
   -- what writing the codeword asks
-  pub peak_writes : {p : Peak} → PeakOf m word p → p.alone ≡ true → IsBit (stored p.constant) × (p.mask < 1024) × (length out % 16 ≡ 0)
-  peak_writes {p} k e =
-      let bit = constant_bit k e in
-      (rw (bit_back bit) bit, omega (arith, peak_below k.peak e, pow_mono {i = m} {j = 10} (omega (arith, r.few))), sixteens)
+  pub peak_writes : {p : Peak} → PeakOf m word (Some p) → IsBit (stored p.constant) × (p.mask < 1024) × (length out % 16 ≡ 0)
+  peak_writes {p} k =
+      let bit = constant_bit k in
+      (rw (bit_back bit) bit, omega (arith, peak_below k.peak, pow_mono {i = m} {j = 10} (omega (arith, r.few))), sixteens)
 
 -- a block that is a codeword already
 pub codeword_gives :
     {m : ℕ} {w out out' : List ℕ} → 1 ≤ m → IsWord m w → codeword_test m 1 w ≡ true → out' ≡ w
-    → Gives (order1 m (values w)) w out out' (record { answer = Accepted 0 1; kept = true })
+    → Gives (order1 m (values w)) w out out' (record { answer = as_accepted 0 1; kept = true })
 codeword_gives {m} {w} hm hw e o =
     rw (order1_codeword hm (codeword_of_test m 1 w hw e)) (record { answer = refl; output = o; kept = λ q. refl })
 
-module _ {m : ℕ} {w : List ℕ} {p : Peak} (k : PeakOf m w p) where
-  pub tie_gives : {out : List ℕ} {t : Told} → (t.answer ≡ Refused Tie 0 1) × (t.kept ≡ false) → p.alone ≡ false → Gives (order1 m (values w)) w out out t
-  tie_gives c e = rw (order1_tie k e) (record { answer = ap numbers_in c.0; output = refl; kept = changed_kept c })
+module _ {m : ℕ} {w : List ℕ} where
+  pub tie_gives : PeakOf m w None → {out : List ℕ} {t : Told} → (t.answer ≡ as_refused Tie 0 1) × (t.kept ≡ false) → Gives (order1 m (values w)) w out out t
+  tie_gives k c = rw (order1_tie k) (record { answer = ap numbers_in c.0; output = refl; kept = changed_kept c })
 
-  module _ (e : p.alone ≡ true) where
+  module _ {p : Peak} (k : PeakOf m w (Some p)) where
     written_is : tabulate (2 ^ m) (affine_bit p.mask (nat_abs (stored p.constant))) ≡ nearest m w p
     unfolding affine
     written_is =
-        ap (λ (z : ℤ). tabulate (2 ^ m) (affine_bit p.mask (nat_abs z))) (bit_back (constant_bit k e) ∙ k.peak.constant e)
+        ap (λ (z : ℤ). tabulate (2 ^ m) (affine_bit p.mask (nat_abs z))) (bit_back (constant_bit k) ∙ k.peak.constant)
 
     pub written_gives :
-        {out out' : List ℕ} {t : Told} → (t.answer ≡ Accepted 0 1) × (t.kept ≡ false) → (n : ℕ) → n ≡ 2 ^ m
+        {out out' : List ℕ} {t : Told} → (t.answer ≡ as_accepted 0 1) × (t.kept ≡ false) → (n : ℕ) → n ≡ 2 ^ m
         → out' ≡ tabulate n (affine_bit p.mask (nat_abs (stored p.constant))) → Gives (order1 m (values w)) w out out' t
     written_gives c n en o =
-        rw (order1-nearest k e)
+        rw (order1-nearest k)
         (record {
           answer = ap numbers_in c.0;
           kept = changed_kept c;

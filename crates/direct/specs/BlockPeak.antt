@@ -1,5 +1,5 @@
 -- The quads of a block's correlations give the correlations of the block. Assumes nothing.
-use Rattle.std.specs.Prelude.{ℕ, suc, ◌+◌, ◌*◌, ◌/◌, ◌^◌, ◌≤◌, ◌<◌, ◌≡◌, List, ℤ, pos, nat_abs, length}
+use Rattle.std.specs.Prelude.{ℕ, suc, ◌+◌, ◌*◌, ◌/◌, ◌^◌, ◌≤◌, ◌<◌, ◌≡◌, List, ℤ, pos, nat_abs, length, Option}
 use Rattle.std.proofs.Common.{sym, ap, subst, ◌∙◌, arith, pow_mono, pow_pos}
 use Rattle.words.specs.Sum.{tabulate}
 use Rattle.words.specs.SumLaws.{length-tabulate, get_or-tabulate}
@@ -77,8 +77,8 @@ module _ {k : ℕ} {w : List ℕ} {xs : List ℤ} (t : BlockQuads k w xs) where
     }
 
     -- the peak of the values is the block's
-    pub block_peak : {p : Peak} → IsPeak (h + h) (value_at xs) p → PeakOf (suc (suc k)) w p
-    block_peak {p} s = record {
+    pub block_peak : {o : Option Peak} → IsPeak (h + h) (value_at xs) o → PeakOf (suc (suc k)) w o
+    block_peak {o} s = record {
       word = t.word;
-      peak = peak_ext (subst (λ (n : ℕ). IsPeak n (value_at xs) p) whole s) value_is;
+      peak = peak_ext (subst (λ (n : ℕ). IsPeak n (value_at xs) o) whole s) value_is;
     }

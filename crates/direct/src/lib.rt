@@ -8,31 +8,34 @@ ghost use Rattle.rule.specs.Decoding.{zeros};
 ghost use Rattle.direct.specs.Direct.{Readable, Gives};
 
 use block_peak::find_peak;
-use told::{Noise, Told, Verdict, changed};
+use told::{Accepted, Noise, Told, changed, refused};
 
 // The reading at order 1 of a block. A block that is a codeword already is its own nearest one, and needs no correlations.
 fn first_order(m: usize, word: &[u8], out: &mut [u8], area: &mut [i32]) -> Told
     requires { Readable m word.now out.old area.old }
     ensures { Gives (order1 m (values word.now)) word.now out.old out.new result }
 {
+    let accepted = Accepted {
+        rounds: 0,
+        leaves: 1,
+    };
     if block_test::is_affine(m, word) {
         words::copy(word, out);
         return Told {
-            answer: Verdict::Accepted(0, 1),
+            answer: Ok(accepted),
             kept: true,
         };
     }
     let k = m - 2;
     let q = words::size(k);
     blocks::correlate(k, word, area);
-    let peak = find_peak(q + q, &area[0..q]);
-    if !peak.alone {
-        return changed(Verdict::Refused(Noise::Tie, 0, 1));
-    }
+    let Some(peak) = find_peak(q + q, &area[0..q]) else {
+        return refused(Noise::Tie, 0, 1);
+    };
     let mask = peak.mask;
     let constant = peak.constant;
     octets::write_affine(out, mask, constant);
-    changed(Verdict::Accepted(0, 1))
+    changed(Ok(accepted))
 }
 
 // The reading at order 1 of a block, and the area cleared.

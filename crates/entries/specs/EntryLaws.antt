@@ -11,11 +11,9 @@ use Rattle.std.proofs.lemmas.Bool.{not-false}
 use Rattle.words.specs.SumLaws.{tabulate_ext}
 use Rattle.capture.specs.Capture as capture
 use Rattle.tables.specs.declared.Table.{Table}
-use Rattle.tables.specs.declared.Slot.{Slot}
-use Rattle.tables.specs.Tables.{slot_of}
+use Rattle.tables.specs.Tables.{Slot, held, is_there, slot_of}
 use Rattle.tables.specs.Slots.{slot_proper}
-use Rattle.capture.specs.Capture.{profile_at, record_in, record_size, serial_of, slot_at, unpacked, word_size}
-use Rattle.capture.specs.Capture.{body_length}
+use Rattle.capture.specs.Capture.{profile_at, record_in, record_size, serial_of, slot_at, unpacked, word_size, body_length}
 use Rattle.capture.specs.Cases.{Sized, sized, known_body, unknown, whole}
 use Rattle.lines.specs.Lines.{Entry, entry, Lines, record_entry}
 use Rattle.pieces.specs.Listing.{entries_for, entries_of, start}
@@ -26,7 +24,7 @@ use Rattle.pieces.specs.Steps.{Cut}
 
 pub record IsRecord (slot : Slot) (s : List ℕ) (serial number next : ℕ) : Type 0 where
   pub head : 5 ≤ length s
-  pub known : slot.known ≡ true
+  pub known : is_there slot ≡ true
   pub fits : record_size slot ≤ length s
   pub serial_is : serial ≡ serial_of s
   pub number_is : number ≡ profile_at s
@@ -52,12 +50,12 @@ unfolding record_in
 record_of slot s {serial} {number} {next} e =
     let (t0, e0) = skipped (eqb (length s) 0) no_none e in
     let (t1, e1) = skipped (ltb (length s) 5) no_refusal e0 in
-    let (t2, e2) = skipped (not slot.known) no_refusal e1 in
+    let (t2, e2) = skipped (not (is_there slot)) no_refusal e1 in
     let (t3, e3) = skipped (ltb (length s) (record_size slot)) no_refusal e2 in
     let (t4, e4) = taken (eqb (word_size slot) (word_size slot)) no_refusal e3 in
     record {
       head = ltb-false (length s) 5 t1;
-      known = not-false slot.known t2;
+      known = not-false (is_there slot) t2;
       fits = ltb-false (length s) (record_size slot) t3;
       serial_is = cc;
       number_is = cc;
@@ -90,7 +88,7 @@ module _ (t : Table) (reader : Lines) where
   turn k k' s h h' same (capture.refused n i) e = refl
   turn k k' s h h' same (capture.record_at i p next) e =
       let r = record_of (slot_at t s) s e in
-      ap (λ (es : List Entry). record_entry reader i p (slot_at t s).profile (unpacked (slot_at t s) s) ∷ es)
+      ap (λ (es : List Entry). record_entry reader i p (held (slot_at t s)) (unpacked (slot_at t s) s) ∷ es)
       (same (drop next s) (omega (arith, length-drop next s, r.next_is)) (omega (arith, length-drop next s, r.next_is)))
 
   turns : (k k' : ℕ) (s : List ℕ) → length s ≤ k → length s ≤ k' → entries_of t reader k s ≡ entries_of t reader k' s
@@ -114,10 +112,10 @@ module _ (t : Table) (reader : Lines) where
     entries_refused e = first e
 
     pub entries_record : {serial number next : ℕ} → start (slot_at t s) s ≡ capture.record_at serial number next
-        → entries t reader s ≡ record_entry reader serial number (slot_at t s).profile (unpacked (slot_at t s) s) ∷ entries t reader (drop next s)
+        → entries t reader s ≡ record_entry reader serial number (held (slot_at t s)) (unpacked (slot_at t s) s) ∷ entries t reader (drop next s)
     entries_record {serial} {number} {next} e =
         first e
-        ∙ ap (λ (es : List Entry). record_entry reader serial number (slot_at t s).profile (unpacked (slot_at t s) s) ∷ es)
+        ∙ ap (λ (es : List Entry). record_entry reader serial number (held (slot_at t s)) (unpacked (slot_at t s) s) ∷ es)
         (entries_turns (length s) (drop next s) (omega (arith, length-drop next s)))
 
 -- ---- a record by itself
@@ -153,7 +151,7 @@ module _ (t : Table) (reader : Lines) (s : List ℕ) {serial number next : ℕ} 
   r = record_of (slot_at t s) s e
 
   abbrev its : Entry
-  its = record_entry reader serial number (slot_at t s).profile (unpacked (slot_at t s) s)
+  its = record_entry reader serial number (held (slot_at t s)) (unpacked (slot_at t s) s)
 
   first_length : length (take next s) ≡ next
   first_length = length-take-le next s (omega (arith, r.next_is, r.fits))
@@ -166,8 +164,8 @@ module _ (t : Table) (reader : Lines) (s : List ℕ) {serial number next : ℕ} 
   record_then more =
       let long : next ≤ length (take next s ++ more) = omega (arith, first_length, length-append (take next s) more) in
       entries_record t reader (take next s ++ more) (same_record t r (same_first more) long)
-      ∙ ap (λ (x : Slot). record_entry reader serial number x.profile (unpacked x (take next s ++ more)) ∷ entries t reader (drop next (take next s ++ more))) (same_slot t r (same_first more) long)
-      ∙ ap₂ (λ (w : List ℕ) (es : List Entry). record_entry reader serial number (slot_at t s).profile w ∷ es)
+      ∙ ap (λ (x : Slot). record_entry reader serial number (held x) (unpacked x (take next s ++ more)) ∷ entries t reader (drop next (take next s ++ more))) (same_slot t r (same_first more) long)
+      ∙ ap₂ (λ (w : List ℕ) (es : List Entry). record_entry reader serial number (held (slot_at t s)) w ∷ es)
       (same_word t r (same_first more) long) (ap (entries t reader) (drop_at (take next s) more next first_length))
 
   pub record_entry_lem : entries t reader (take next s) ≡ its ∷ []
@@ -186,13 +184,13 @@ module _ (t : Table) (reader : Lines) (s : List ℕ) {serial number next : ℕ} 
 
 module _ (t : Table) (reader : Lines) where
   -- a profile that is unknown ends it
-  unknown_entry : (s : List ℕ) → 5 ≤ length s → (slot_at t s).known ≡ false → entries t reader s ≡ entry (reader.of_refusal 14 (serial_of s)) 0 ∷ []
+  unknown_entry : (s : List ℕ) → 5 ≤ length s → is_there (slot_at t s) ≡ false → entries t reader s ≡ entry (reader.of_refusal 14 (serial_of s)) 0 ∷ []
   unknown_entry s h p = entries_refused t reader s (sym (unknown (slot_at t s) s 0 (word_size (slot_at t s)) (λ e. omega arith) h p))
 
-  unknown_alone : (s more : List ℕ) → 5 ≤ length s → (slot_at t s).known ≡ false → entries t reader (s ++ more) ≡ entries t reader s
+  unknown_alone : (s more : List ℕ) → 5 ≤ length s → is_there (slot_at t s) ≡ false → entries t reader (s ++ more) ≡ entries t reader s
   unknown_alone s more h p =
       let at : (i : ℕ) → i < 5 → get_or (s ++ more) i 0 ≡ get_or s i 0 = λ i l. get_or-append s more 0 i (omega arith) in
-      unknown_entry (s ++ more) (omega (arith, length-append s more)) (ap (λ (n : ℕ). (slot_of t n).known) (at 4 (omega arith)) ∙ p)
+      unknown_entry (s ++ more) (omega (arith, length-append s more)) (ap (λ (n : ℕ). (is_there (slot_of t n))) (at 4 (omega arith)) ∙ p)
       ∙ rw (at 0 (omega arith), at 1 (omega arith), at 2 (omega arith), at 3 (omega arith)) (sym (unknown_entry s h p))
 
   -- where no whole record stands at the start of s, what follows adds nothing
@@ -200,9 +198,9 @@ module _ (t : Table) (reader : Lines) where
       → entries t reader (s ++ more) ≡ entries t reader s
   ends_alone s none more cut = elim (dec_le (5 + body_length (slot_at t s) s) (length s)) [
     | no k ↦ rw (cut (omega arith)) (ap (entries t reader) (append-nil s))
-    | yes h ↦ go (slot_at t s).known refl h
+    | yes h ↦ go (is_there (slot_at t s)) refl h
   ]
     where
-      go : (b : Bool) → (slot_at t s).known ≡ b → 5 + body_length (slot_at t s) s ≤ length s → entries t reader (s ++ more) ≡ entries t reader s
+      go : (b : Bool) → is_there (slot_at t s) ≡ b → 5 + body_length (slot_at t s) s ≤ length s → entries t reader (s ++ more) ≡ entries t reader s
       go false e h = unknown_alone s more (omega arith) e
       go true e h = absurd (none _ _ _ (sym (whole (slot_at t s) s 0 (word_size (slot_at t s)) (λ z. omega arith) (omega arith) e (omega (arith, known_body (slot_at t s) s (omega arith) e)) refl)))

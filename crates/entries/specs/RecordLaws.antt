@@ -1,11 +1,9 @@
 -- Laws of a record's entry: what a call of the decoder says of it, and that the message of an accepted word can be read. Assumes nothing.
-use Rattle.std.specs.Prelude.{ℕ, ◌≡◌, List, length, ℤ}
+use Rattle.std.specs.Prelude.{ℕ, ◌≡◌, List, length, ℤ, Ok, Err}
 use Rattle.std.proofs.Common.{arith, sym, ap, ◌∙◌, subst}
 use Rattle.std.proofs.Math.Path.{refl}
 use Rattle.words.specs.Word.{IsWord}
-use Rattle.refusals.specs.declared.Decoded.{Decoded}
-use Rattle.refusals.specs.declared.Decoded.TheVariants as decoder
-use Rattle.refusals.specs.Refusals.{first_refusal}
+use Rattle.refusals.specs.Refusals.{Decoded, first_refusal}
 use Rattle.refusals.specs.IsCode.{IsCode}
 use Rattle.code.specs.Code.{dimension}
 use Rattle.codec_checks.specs.Checks.{read_checks}
@@ -59,8 +57,8 @@ module _ (p : Profile) {word out out' : List ℕ} {area area' : List ℤ} {d : D
 -- the entry of a record: its line, and whether the decoder accepted
 module _ {p : Profile} {word decoded : List ℕ} {d : Decoded} (h : Answered p word decoded d) where
   accepted_same : (a : Decoded) → d ≡ a → accepted_by a ≡ accepted_in (decoded_by p word)
-  accepted_same (decoder.Accepted k l n) e = ap accepted_in (sym (answered_accepted h e))
-  accepted_same (decoder.Refused why k l) e = ap accepted_in (sym (answered_refused h e))
+  accepted_same (Ok x) e = ap accepted_in (sym (answered_accepted h e))
+  accepted_same (Err x) e = ap accepted_in (sym (answered_refused h e))
 
   pub answered_lined : (reader : Lines) (serial number : ℕ) {before after : List ℕ} {at : ℕ} (line : Line)
       → Appended before at (reader.of_record serial number p word (decoded_by p word)) line.end after → line.accepted ≡ accepted_by d

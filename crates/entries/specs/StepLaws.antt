@@ -1,5 +1,5 @@
 -- What stands at the start of a part, listed: one law for each answer of the capture reader. Assumes nothing.
-use Rattle.std.specs.Prelude.{ℕ, ◌*◌, ◌≤◌, ◌<◌, ◌≡◌, refl, Bool, true, false, cond, not, List, [], ◌∷◌, ◌++◌, eqb, ltb, length, take, ℤ}
+use Rattle.std.specs.Prelude.{ℕ, ◌*◌, ◌≤◌, ◌<◌, ◌≡◌, refl, Bool, true, false, cond, not, List, [], ◌∷◌, ◌++◌, eqb, ltb, length, take, ℤ, Some, Ok, None, IsSome}
 use Rattle.std.proofs.Math.Decide.{dec_lt}
 use Rattle.std.proofs.Common.{arith, sym, ap, ◌∙◌, append-nil, eqb-true}
 use Rattle.std.proofs.lemmas.Bool.{false≢true}
@@ -8,14 +8,11 @@ use Rattle.words.specs.Word.{IsWord}
 use Rattle.words.proofs.WordLaws.{word_tabulate}
 use Rattle.profiles.specs.declared.Profile.{Profile}
 use Rattle.tables.specs.declared.Table.{Table}
-use Rattle.tables.specs.declared.Slot.{Slot}
+use Rattle.tables.specs.Tables.{Slot, is_there, held}
 use Rattle.tables.specs.Slots.{Proper}
 use Rattle.unpacking.specs.Packed.{packed_bit}
-use Rattle.capture.specs.declared.Found.{Found}
-use Rattle.capture.specs.declared.Found.TheVariants as found
 use Rattle.capture.specs.Capture as capture
-use Rattle.capture.specs.Capture.{answer_of, buffer_of, record_in, record_size, slot_at, unpacked, word_size}
-use Rattle.capture.specs.Capture.{body_length, Stands}
+use Rattle.capture.specs.Capture.{Found, answer_of, buffer_of, record_in, record_size, slot_at, unpacked, word_size, body_length, Stands}
 use Rattle.capture.specs.Cases.{none, known_body, own_size, sized}
 use Rattle.rule.specs.Reading.{Outcome, accepted, refused}
 use Rattle.rule.specs.Decoding.{zeros}
@@ -53,7 +50,7 @@ none_length slot s e =
     eqb-true (length s) 0
     (empty (eqb (length s) 0)
     (never (ltb (length s) 5) no_refusal
-    (never (not slot.known) no_refusal
+    (never (not (is_there slot)) no_refusal
     (never (ltb (length s) (record_size slot)) no_refusal
     (never (eqb (word_size slot) (word_size slot)) no_record no_refusal))))
     e)
@@ -84,17 +81,25 @@ module _ {slot : Slot} {part word word' : List ℕ} {f : Found} (proper : Proper
   pub found_start : start slot part ≡ answer_of f
   found_start = sym (c.answer ∙ ap (record_in slot part 0) size ∙ own_size slot part 0 proper)
 
-  pub found_word : {serial number next : ℕ} → f ≡ found.Record serial number next → word' ≡ unpacked slot part
+  pub found_word : {serial number next : ℕ} → f ≡ Ok (Some (record { serial = serial; profile = number; next = next })) → word' ≡ unpacked slot part
   found_word e = c.buffer ∙ ap (λ (a : capture.Answer). buffer_of slot a part word) (sym c.answer ∙ ap answer_of e)
 
 -- ---- a record's word
 
+-- the entry of a record that was found is there
+pub record_there : (slot : Slot) (s : List ℕ) {serial number next : ℕ} → start slot s ≡ capture.record_at serial number next → IsSome slot
+record_there slot s e = by slot (record_of slot s e).known
+  where
+    by : (x : Slot) → is_there x ≡ true → IsSome x
+    by (Some p) h = refl
+    by None h = absurd (false≢true h)
+
 pub record_decodable : (slot : Slot) (s : List ℕ) {serial number next : ℕ} {word : List ℕ} (room area : ℕ) → Proper slot → start slot s ≡ capture.record_at serial number next
-    → word ≡ unpacked slot s → room ≡ length word → 64 * body_length slot s ≤ area → Decodable slot.profile word room area
+    → word ≡ unpacked slot s → room ≡ length word → 64 * body_length slot s ≤ area → Decodable (held slot) word room area
 unfolding unpacked
 record_decodable slot s {word = word} room area proper e w q h =
     let r = record_of slot s e in
-    let is : IsWord slot.profile.m word = rw w (word_tabulate slot.profile.m (packed_bit s) (λ p l. omega arith)) in
+    let is : IsWord (held slot).m word = rw w (word_tabulate (held slot).m (packed_bit s) (λ p l. omega arith)) in
     record {
       limits = proper.limits r.known;
       sizes = record { input = is; output = q ∙ is.size; lent = omega (arith, known_body slot s r.head r.known, (sized slot proper r.known).bytes) };
@@ -168,16 +173,16 @@ module _ {reader : Lines} {slot : Slot} {part before : List ℕ} {at : ℕ} (h :
 
   -- a record
   pub step_record : {serial number next : ℕ} {word after : List ℕ} {area area' : List ℤ} {line : Line} → start slot part ≡ capture.record_at serial number next
-      → word ≡ unpacked slot part → Lined (record_entry reader serial number slot.profile word) before at after line × (area' ≡ zeros area)
+      → word ≡ unpacked slot part → Lined (record_entry reader serial number (held slot) word) before at after line × (area' ≡ zeros area)
       → Steps reader slot part before at after area area' (record { consumed = next; written = line.end; records = 1; accepted = line.accepted; ended = false })
   step_record {serial} {number} {next} {after = after} {area} {line = line} e w l = record {
     under = λ t q.
         let f : start (slot_at t part) part ≡ capture.record_at serial number next = ap (λ (x : Slot). start x part) (sym q) ∙ e in
         let r = record_of slot part e in
-        let it : Entry = record_entry reader serial number slot.profile (unpacked slot part) in
+        let it : Entry = record_entry reader serial number (held slot) (unpacked slot part) in
         let a : Lined it before at after line = rw w at l.0 in
         let es : entries t reader (take next part) ≡ it ∷ [] = record_entry_lem t reader part f
-        ∙ ap (λ (x : Slot). record_entry reader serial number x.profile (unpacked x part) ∷ []) (sym q) in
+        ∙ ap (λ (x : Slot). record_entry reader serial number (held x) (unpacked x part) ∷ []) (sym q) in
         record {
           piece = record {
             within = omega (arith, r.next_is, r.fits);
@@ -187,7 +192,7 @@ module _ {reader : Lines} {slot : Slot} {part before : List ℕ} {at : ℕ} (h :
             records = ap length (sym es);
             accepted = a.counted ∙ sym (accepted_one it) ∙ ap accepted_of (sym es);
             few = omega (arith, r.next_is);
-            fewer = omega (arith, a.counted, entry_ok reader serial number slot.profile (unpacked slot part));
+            fewer = omega (arith, a.counted, entry_ok reader serial number (held slot) (unpacked slot part));
             goes_on = λ z. record_whole t reader part f;
             all = λ z. absurd (false≢true z);
             alone = λ z. absurd (false≢true z);

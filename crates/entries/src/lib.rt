@@ -7,17 +7,16 @@ ghost use Rattle.tables.specs.Slots.{Proper};
 ghost use Rattle.pieces.specs.Steps.{Steps};
 ghost use Rattle.readers.specs.Readers.{lines_for};
 
-use capture::Found;
 use pieces::Listed;
+use profiles::Profile;
 use readers::Reader;
-use tables::Slot;
 
 mod records;
 
 // The line of what stands at the start of the part, by way of a word buffer of its size. 14, 16 and no byte left end the listing.
 fn list_found(
     reader: Reader,
-    slot: Slot,
+    slot: Option<Profile>,
     part: &[u8],
     word: &mut [u8],
     decoded: &mut [u8],
@@ -28,28 +27,33 @@ fn list_found(
     requires { Proper slot × (length word.old ≡ 8 * body_length slot part.now) × (length decoded.old ≡ length word.old) × (at + 268 ≤ length out.old) × (64 * body_length slot part.now ≤ length area.old) }
     ensures { Steps (lines_for reader) slot part.now out.old at out.new area.old area.new result }
 {
-    let found = capture::record_in(slot, part, 0, word);
+    let found = match capture::record_in(slot, part, 0, word) {
+        Ok(found) => found,
+        Err(missing) => {
+            return Listed {
+                consumed: part.len(),
+                written: readers::refusal_line(reader, missing.why, missing.serial, out, at),
+                records: 1,
+                accepted: 0,
+                ended: true,
+            };
+        }
+    };
     match found {
-        Found::NoneLeft => Listed {
+        None => Listed {
             consumed: 0,
             written: at,
             records: 0,
             accepted: 0,
             ended: true,
         },
-        Found::Refused(why, serial) => Listed {
-            consumed: part.len(),
-            written: readers::refusal_line(reader, why, serial, out, at),
-            records: 1,
-            accepted: 0,
-            ended: true,
-        },
-        Found::Record(serial, number, next) => {
+        Some(record) => {
             let line = records::record_line(
                 reader,
-                serial,
-                number,
-                slot.profile,
+                record.serial,
+                record.profile,
+                // A record was found, so that its profile is there.
+                slot.unwrap(),
                 word,
                 decoded,
                 out,
@@ -57,7 +61,7 @@ fn list_found(
                 area,
             );
             Listed {
-                consumed: next,
+                consumed: record.next,
                 written: line.end,
                 records: 1,
                 accepted: line.accepted,
@@ -70,7 +74,7 @@ fn list_found(
 // The line of what stands at the start of the part, by what the table has at its profile, by way of two buffers for the longest words.
 pub fn list_one(
     reader: Reader,
-    slot: Slot,
+    slot: Option<Profile>,
     part: &[u8],
     word: &mut [u8],
     decoded: &mut [u8],

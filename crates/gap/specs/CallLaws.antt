@@ -1,5 +1,5 @@
 -- A call of `gap`: its contract from its checks, and the correlations of the word in the lent numbers. Assumes nothing.
-use Rattle.std.specs.Prelude.{ℕ, suc, ◌+◌, ◌-◌, ◌*◌, ◌/◌, ◌^◌, ◌≤◌, ◌<◌, ◌≡◌, refl, Bool, true, false, cond, List, ◌++◌, leb, ℤ, pos, nat_abs, length}
+use Rattle.std.specs.Prelude.{ℕ, suc, ◌+◌, ◌-◌, ◌*◌, ◌/◌, ◌^◌, ◌≤◌, ◌<◌, ◌≡◌, refl, Bool, true, false, cond, List, ◌++◌, leb, ℤ, pos, nat_abs, length, Ok, Err}
 use Rattle.std.proofs.Common.{sym, ap, ap₂, ◌∙◌, mul-le-mul, arith, pow_mono, pow_pos, eq-eqb, eqb-true, leb-true, ne_eqb}
 use Rattle.std.proofs.Math.Decide.{dec_lt, ℕ_discrete}
 use Rattle.std.proofs.Math.ListN.{get_or-eq_default}
@@ -12,18 +12,15 @@ use Rattle.peaks.specs.Joined.{joined_whole}
 use Rattle.peaks.specs.Packing.{correlation_size}
 use Rattle.peaks.specs.Peaks.{pairs_joined}
 use Rattle.refusals.proofs.CheckLaws.{bits_tested, number_pos, passed}
-use Rattle.refusals.specs.Refusals.{Checked, answer_number, answer_place, code_checks, first_refusal, number_of, place_named, place_of}
-use Rattle.refusals.specs.declared.Answer.{Answer}
+use Rattle.refusals.specs.Refusals.{Checked, answer_number, answer_place, code_checks, first_refusal, number_of, place_named, place_of, Answer}
 use Rattle.refusals.specs.declared.Refusal.{Refusal}
 use Rattle.rule.specs.Decoding.{buffer_checks, zeros}
 use Rattle.words.specs.Word.{IsWord, bit}
 use Rattle.words.specs.Written.{Written}
-use Rattle.gap.specs.Calls.{Measures, gap_call, gap_checks, gap_in, gap_values, measured_values}
+use Rattle.gap.specs.Calls.{Measures, gap_call, gap_checks, gap_in, gap_values, measured_values, Measured}
 use Rattle.gap.specs.Gap.{gap_below, gap_of}
 use Rattle.gap.specs.Measuring.{Fits, Small}
 use Rattle.gap.specs.Seconds.{gap_ext}
-use Rattle.gap.specs.declared.Measured.{Measured}
-use Rattle.gap.specs.declared.Measured.TheVariants.{Gap}
 
 -- ---- the checks
 
@@ -77,7 +74,7 @@ module _ (m : ℕ) (word : List ℕ) (area : ℕ) where
   call_refused k = rw (ne_eqb refusal 0 k)
 
 pub gap_refused : {m : ℕ} {word : List ℕ} (area : List ℤ) {a : Answer} {why : Refusal}
-    → Checked (gap_checks m word (length area)) word a → a ≡ Answer.Refused why → Measures m word area area (Measured.Refused why)
+    → Checked (gap_checks m word (length area)) word a → a ≡ Err why → Measures m word area area (Err why)
 gap_refused {m} {word} area {a} {why} c e =
     let n : number_of why ≡ refusal m word (length area) = ap answer_number (sym e) ∙ c.number in
     let p : place_of why ≡ place_named word (refusal m word (length area)) = ap answer_place (sym e) ∙ c.place in
@@ -88,7 +85,7 @@ gap_refused {m} {word} area {a} {why} c e =
     }
 
 pub gap_done : {m : ℕ} {word : List ℕ} {area area' : List ℤ} {g : ℕ}
-    → 0 ≡ first_refusal (gap_checks m word (length area)) → g ≡ gap_of m word → area' ≡ zeros area → Measures m word area area' (Gap g)
+    → 0 ≡ first_refusal (gap_checks m word (length area)) → g ≡ gap_of m word → area' ≡ zeros area → Measures m word area area' (Ok g)
 gap_done {m} {word} {area} e h z = record {
   answer = ap (λ (x : ℕ). gap_values 0 x 0) h ∙ sym (call_measured m word (length area) (sym e));
   lent = rw (← e) z;

@@ -1,10 +1,13 @@
 -- What a call of `gap` promises. Assumes nothing.
-use Rattle.std.specs.Prelude.{ℕ, ◌*◌, ◌^◌, ◌≡◌, cond, List, ◌∷◌, eqb, leb, ℤ, length}
+use Rattle.std.specs.Prelude.{Result, Ok, Err, ℕ, ◌*◌, ◌^◌, ◌≡◌, cond, List, ◌∷◌, eqb, leb, ℤ, length}
+use Rattle.refusals.specs.declared.Refusal.{Refusal}
 use Rattle.refusals.specs.Refusals.{Check, byte_checks, check, first_refusal, number_of, place_named, place_of}
 use Rattle.rule.specs.Decoding.{zeros}
 use Rattle.gap.specs.Gap.{gap_of}
-use Rattle.gap.specs.declared.Measured.{Measured}
-use Rattle.gap.specs.declared.Measured.TheVariants.{Gap, Refused}
+
+-- what a call answers: the gap, or why it is refused
+abbrev pub Measured : Type 0
+Measured = Result ℕ Refusal
 
 -- "Bad calls get the decoder's 1, 5, 7 and 8."
 abbrev pub gap_checks : ℕ → List ℕ → ℕ → List Check
@@ -20,8 +23,8 @@ gap_in (gap_values e g p) = g
 
 -- the values of each case of the code's answer
 abbrev pub measured_values : Measured → GapValues
-measured_values (Gap g) = gap_values 0 g 0
-measured_values (Refused why) = gap_values (number_of why) 0 (place_of why)
+measured_values (Ok g) = gap_values 0 g 0
+measured_values (Err why) = gap_values (number_of why) 0 (place_of why)
 
 -- the values of any call, with an area of `area` numbers
 unfoldable pub gap_call : ℕ → List ℕ → ℕ → GapValues

@@ -11,25 +11,15 @@ ghost use Rattle.gap.specs.Gap.{gap_of};
 ghost use Rattle.gap.specs.Calls.{Measures, gap_checks};
 ghost use Rattle.gap.specs.Measuring.{Fits};
 
-use refusals::{Answer, Refusal};
+use refusals::Refusal;
 
 mod pairs;
 
-// What `gap` answers.
-#[derive(Clone, Copy)]
-pub enum Measured {
-    Gap(usize),
-    Refused(Refusal),
-}
-
 // 1, 5, 7 and 8: the decoder's checks at order 1, with room for the output.
-fn check(m: usize, word: &[u8], area: usize) -> Answer
+fn check(m: usize, word: &[u8], area: usize) -> Result<(), Refusal>
     ensures { Checked (gap_checks m word.now area) word.now result }
 {
-    let code = code_checks::check_code(m, 1);
-    if let Answer::Refused(why) = code {
-        return Answer::Refused(why);
-    }
+    code_checks::check_code(m, 1)?;
     let n = words::size(m);
     checks::buffers(m, word, n, area)
 }
@@ -39,10 +29,8 @@ fn signs(word: &[u8], part: &mut [i32])
     requires { length word.now ≤ length part.old }
     ensures { Written (pos 0) 0 (length word.now) (λ p. sign (bit word.now p)) part.old part.new }
 {
-    let mut i = 0;
-    while i < word.len() {
-        part[i] = if word[i] == 0 { 1 } else { -1 };
-        i += 1;
+    for (i, w) in word.iter().enumerate() {
+        part[i] = if *w == 0 { 1 } else { -1 };
     }
 }
 
@@ -71,15 +59,12 @@ fn measure(m: usize, word: &[u8], part: &mut [i32]) -> usize
 }
 
 // The gap of a block at order 1.
-pub fn gap(m: usize, word: &[u8], area: &mut [i32]) -> Measured
+pub fn gap(m: usize, word: &[u8], area: &mut [i32]) -> Result<usize, Refusal>
     ensures { Measures m word.now area.old area.new result }
 {
-    let checked = check(m, word, area.len());
-    if let Answer::Refused(why) = checked {
-        return Measured::Refused(why);
-    }
+    check(m, word, area.len())?;
     let n = words::size(m);
     let g = measure(m, word, &mut area[0..n]);
     area::fill(area, 0);
-    Measured::Gap(g)
+    Ok(g)
 }

@@ -25,8 +25,7 @@ fn to_sizes(h: usize, part: &mut [i32]) -> Tops
 {
     let mut most: i32 = 0;
     let mut lower: i32 = 0;
-    let mut i = 0;
-    while i < h {
+    for i in 0..h {
         let x = part[i];
         let y = part[h + i];
         let s = peaks::size_of(x, y);
@@ -38,7 +37,6 @@ fn to_sizes(h: usize, part: &mut [i32]) -> Tops
         if lower < t {
             lower = t;
         }
-        i += 1;
     }
     Tops { most, lower }
 }
@@ -66,17 +64,14 @@ fn next(sizes: &[i32], g: i32) -> Rest
 {
     let mut count: u32 = 0;
     let mut second: i32 = 0;
-    let mut i = 0;
-    while i < sizes.len() {
-        let x = sizes[i];
-        if x == g {
+    for x in sizes {
+        if *x == g {
             count += 1;
         }
-        let z = under(x, g);
+        let z = under(*x, g);
         if second < z {
             second = z;
         }
-        i += 1;
     }
     Rest { count, second }
 }

@@ -1,7 +1,6 @@
 -- The layer for the gateway in C: document 02, request 14. Assumes nothing.
 use Rattle.std.specs.Prelude.{ℕ, ◌/◌, ◌%◌, ◌^◌, ◌<◌, ◌≡◌, List, length}
-use Rattle.refusals.specs.Refusals.{place_named}
-use Rattle.refusals.specs.declared.Decoded.{Decoded}
+use Rattle.refusals.specs.Refusals.{place_named, Decoded}
 use Rattle.profiles.specs.Profiles.{profile_of}
 use Rattle.rule.specs.Reading.{Outcome}
 use Rattle.rule.specs.Decoding.{Values, values, decode_profile_call, refusal_of, answer_of, output_of}

@@ -3,8 +3,7 @@ use Rattle.std.specs.Prelude.{ℕ, zero, suc, ◌*◌, ◌^◌, ◌≤◌, ◌�
 use Rattle.std.proofs.Common.{ap₂, ◌∙◌, arith}
 use Rattle.std.proofs.Math.Bool.{true, false}
 use borrow.Author.Tests.{le-leb, leb-true}
-use Rattle.refusals.specs.Refusals.{first_refusal}
-use Rattle.refusals.specs.declared.Decoded.{Decoded}
+use Rattle.refusals.specs.Refusals.{first_refusal, Decoded}
 use Rattle.profiles.specs.Profiles.{profile_of}
 use Rattle.rule.specs.Decoding.{after, buffer_checks, decode_profile_call, profile_checks}
 use Rattle.rule.specs.Calls.{Decodes, values_of, decoded_place}

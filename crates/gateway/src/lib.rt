@@ -2,44 +2,38 @@
 // packed in 64 bits.
 #![tactic(auto)]
 
-ghost use Rattle.std.specs.Prelude.{length};
+ghost use Rattle.std.specs.Prelude.{◌*◌, ◌^◌, ◌≤◌, length};
+ghost use Rattle.profiles.specs.Profiles.{profile_of};
 ghost use Rattle.code.specs.Code.{codeword, message_of};
 ghost use Rattle.codec_checks.specs.Checks.{encode_checks, read_checks};
 ghost use Rattle.packing.specs.Packing.{Returns};
 ghost use Rattle.gateway.specs.Gateway.{Delivers, ReturnsOwn};
 
-use refusals::Decoded;
+use refusals::{Accepted, Refused};
 
-// A block in 8 working numbers for each of its places. The short blocks of profiles 0 and 1 have fewer, since clearing as many as the longest
-// need takes as long as reading a block of profile 0.
-fn decode_32(word: &[u8], out: &mut [u8]) -> Decoded
-    ensures { Delivers 0 word.now out.old out.new result }
-{
-    let mut area = [0i32; 256];
-    decoder::decode_profile(0, word, out, &mut area)
-}
-
-fn decode_64(word: &[u8], out: &mut [u8]) -> Decoded
-    ensures { Delivers 1 word.now out.old out.new result }
-{
-    let mut area = [0i32; 512];
-    decoder::decode_profile(1, word, out, &mut area)
-}
-
-fn decode_256(profile: usize, word: &[u8], out: &mut [u8]) -> Decoded
+// A block in N working numbers, at least 8 for each of its places.
+fn decode_in<const N: usize>(
+    profile: usize,
+    word: &[u8],
+    out: &mut [u8],
+) -> Result<Accepted, Refused>
+    requires few { N ≤ 2048 }
+    requires enough { profile ≤ 4 → 8 * 2 ^ (profile_of profile).m ≤ N }
     ensures { Delivers profile word.now out.old out.new result }
 {
-    let mut area = [0i32; 2048];
+    let mut area = [0i32; N];
     decoder::decode_profile(profile, word, out, &mut area)
 }
 
-fn decode(profile: usize, word: &[u8], out: &mut [u8]) -> Decoded
+// The short blocks of profiles 0 and 1 have fewer numbers, since clearing as many as the longest need takes as long as reading a block of
+// profile 0.
+fn decode(profile: usize, word: &[u8], out: &mut [u8]) -> Result<Accepted, Refused>
     ensures { Delivers profile word.now out.old out.new result }
 {
     match profile {
-        0 => decode_32(word, out),
-        1 => decode_64(word, out),
-        _ => decode_256(profile, word, out),
+        0 => decode_in::<256>(0, word, out),
+        1 => decode_in::<512>(1, word, out),
+        _ => decode_in::<2048>(profile, word, out),
     }
 }
 

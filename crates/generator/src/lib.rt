@@ -2,7 +2,6 @@
 #![tactic(auto)]
 
 ghost use Rattle.std.specs.Prelude.{◌≡◌, ◌^◌, ◌≤◌, ◌<◌, length};
-ghost use Rattle.words.specs.Sum.{tabulate};
 ghost use Rattle.generator.specs.Generator;
 ghost use Rattle.generator.specs.Generator.{draw, places_from};
 ghost use Rattle.generator.specs.Drawing.{MessageDrawn, Placed, held};
@@ -21,26 +20,18 @@ pub fn draw_message(start: u32, message: &mut [u8]) -> u32
     ensures { MessageDrawn start message.old message.new result }
 {
     let mut x = start;
-    for i in 0..message.len() {
+    for b in message {
         x = step(x);
-        message[i] = (x >> 31) as u8;
+        *b = (x >> 31) as u8;
     }
     x
 }
 
 // A state, and how many places are wrong.
-#[derive(Clone, Copy)]
+#[derive(Clone, Copy, Debug, PartialEq, Eq)]
 pub struct Places {
     pub state: u32,
     pub wrong: usize,
-}
-
-fn clear(s: &mut [u8])
-    ensures { s.new ≡ tabulate (length s.old) (λ p. 0) }
-{
-    for i in 0..s.len() {
-        s[i] = 0;
-    }
 }
 
 // Draws one of n places. One that is wrong already stays so.
@@ -51,7 +42,7 @@ fn draw_place(n: usize, p: Places, noise: &mut [u8]) -> Places
     let x = step(p.state);
     let at = x as usize % n;
     let new = 1 - noise[at];
-    let wrong = p.wrong + new as usize;
+    let wrong = p.wrong + usize::from(new);
     noise[at] = 1;
     Places { state: x, wrong }
 }
@@ -62,18 +53,16 @@ pub fn draw_places(m: usize, start: u32, asked: usize, noise: &mut [u8]) -> Plac
     ensures { Placed (places_from (2 ^ m) asked start) result noise.new }
 {
     let n = words::size(m);
-    clear(noise);
+    noise.fill(0);
     let mut p = Places {
         state: start,
         wrong: 0,
     };
-    let mut i = 0;
-    while i < n {
+    for _ in 0..n {
         if asked <= p.wrong {
             return p;
         }
         p = draw_place(n, p, noise);
-        i += 1;
     }
     p
 }

@@ -1,14 +1,13 @@
 -- A call of the decoder whose outcome mends. Assumes nothing.
 use Prim.Native.Nat.{ℕ, ◌≤◌}
-use mathlib.Core.Path.{◌≡◌, ap, ◌∙◌}
+use mathlib.Core.Path.{◌≡◌, refl, ap, ◌∙◌}
 use mathlib.Core.List.{List}
 use native.Mathlib.Omega.{arith}
 use lib.IntN.{ℤ}
 use lib.ListN.{length}
 use Rattle.refusals.proofs.CheckLaws.{number_pos}
-use Rattle.refusals.specs.Refusals.{number_of}
-use Rattle.refusals.specs.declared.Decoded.{Decoded}
-use Rattle.refusals.specs.declared.Decoded.TheVariants.{Accepted, Refused}
+use Rattle.refusals.specs.Refusals.{number_of, Decoded}
+use Rattle.std.specs.Prelude.{Ok, Err}
 use Rattle.profiles.specs.Profiles.{profile_of}
 use Rattle.rule.specs.Reading.{Outcome}
 use Rattle.rule.specs.Decoding.{answer_of, decode_call, decode_profile_call, output_of, values}
@@ -19,9 +18,13 @@ use Rattle.guarantee.specs.Guarantee.{Limits, Mended, Mends, Received, enough}
 use Rattle.guarantee.proofs.GuaranteeLaws.{guarantee_outcome, guarantee_profile_outcome}
 
 -- only an accepted answer has the values of one
-said : (d : Decoded) {k l n : ℕ} → values_of d ≡ values 0 k l n → d ≡ Accepted k l n
-said (Accepted i j h) e = cc
-said (Refused why i j) e = let z : number_of why ≡ 0 = cc in absurd (omega (arith, number_pos why))
+said : (d : Decoded) {k l n : ℕ} → values_of d ≡ values 0 k l n → d ≡ Ok record { rounds = k; leaves = l; mended = n }
+said (Ok x) {k} {l} {n} e =
+    let i : k ≡ x.rounds = cc in
+    let j : l ≡ x.leaves = cc in
+    let h : n ≡ x.mended = cc in
+    rw (i, j, h) refl
+said (Err x) e = let z : number_of x.why ≡ 0 = cc in absurd (omega (arith, number_pos x.why))
 
 module _ {w c out out' : List ℕ} {area area' : List ℤ} {d : Decoded} where
   -- by its outcome o

@@ -1,10 +1,9 @@
 -- What the decoder surely mends: document 02, request 6. Assumes nothing.
-use Rattle.std.specs.Prelude.{ℕ, pred, ◌-◌, ◌*◌, ◌/◌, ◌^◌, ◌≤◌, ◌<◌, ◌≡◌, List}
+use Rattle.std.specs.Prelude.{ℕ, pred, ◌-◌, ◌*◌, ◌/◌, ◌^◌, ◌≤◌, ◌<◌, ◌≡◌, List, Ok}
 use Rattle.words.specs.Sum.{total}
 use Rattle.words.specs.Word.{IsWord, distance}
 use Rattle.code.specs.Code.{IsCodeword}
-use Rattle.refusals.specs.declared.Decoded.{Decoded}
-use Rattle.refusals.specs.declared.Decoded.TheVariants.{Accepted}
+use Rattle.refusals.specs.Refusals.{Decoded}
 use Rattle.rule.specs.Reading.{Outcome, accepted}
 
 -- "the product of 2 × (2^j − 1) for j from m down to m − r + 2, taken as 1 for r of 0 or 1": the r - 1 factors of j = m - i
@@ -43,7 +42,7 @@ pub record Mends (c : List ℕ) (product : ℕ) (o : Outcome) : Type 0 where
 pub record Mended (m r : ℕ) (w c out' : List ℕ) (d : Decoded) : Type 0 where
   pub rounds : ℕ
   pub leaves : ℕ
-  pub answer : d ≡ Accepted rounds leaves (distance m w c)
+  pub answer : d ≡ Ok record { rounds = rounds; leaves = leaves; mended = distance m w c }
   pub output : out' ≡ c
   pub rounds_most : rounds ≤ 2
   pub leaves_most : leaves ≤ enough m r

@@ -1,17 +1,17 @@
 -- The fast Hadamard transform: sums and differences by halves give the correlation of every mask. Assumes nothing.
-use Rattle.std.specs.Prelude.{ℕ, suc, ◌+◌, ◌*◌, ◌%◌, ◌^◌, ◌≤◌, ◌<◌, ◌≡◌, refl, List, ℤ, pos, nat_abs, ◌-ℤ◌, length, set}
+use Rattle.std.specs.Prelude.{ℕ, suc, ◌+◌, ◌*◌, ◌%◌, ◌^◌, ◌≤◌, ◌<◌, ◌≡◌, refl, List, ℤ, pos, nat_abs, ◌-ℤ◌, length}
 use Rattle.std.proofs.Common.{sym, ◌∙◌, zero-mul, add-mul, mul-add, mul-le-mul_left, mul-le-mul_right, arith, pow_mono, ext_get_or}
 use Rattle.std.proofs.Math.Path.{ap, ap₂}
 use Rattle.std.specs.Int.Bits.{bit_and, and_lt}
 use Rattle.std.specs.Int.Count.{ones}
 use Rattle.std.proofs.Math.IntN.{neg_ℤ, ◌+ℤ◌, +ℤ_idl}
 use Rattle.area.specs.Area.{at}
-use Rattle.area.specs.Numbers.{Half, difference_stored, nat_abs-add, nat_abs_neg, stored, sum_stored}
+use Rattle.area.specs.Numbers.{nat_abs-add, nat_abs_neg}
 use Rattle.hadamard.specs.Correlation.{correlation, signed}
 use Rattle.hadamard.specs.CorrelationLaws.{correlation-zero, signed_sum}
 use Rattle.hadamard.specs.Summable.{Summable}
 use Rattle.words.specs.Butterflies.{Entries, Rule, halved}
-use Rattle.words.specs.ButterflyLaws.{ByHalves, PairsDone, halved-entry, length-halved, pair_room, pairs_more}
+use Rattle.words.specs.ButterflyLaws.{ByHalves, halved-entry, length-halved}
 use Rattle.words.specs.Sum.{tabulate, total}
 use Rattle.words.specs.SumLaws.{get_or-tabulate, length-tabulate, sum_ℤ_ext, sum_ℤ_halves, sum_ℤ_neg}
 use Rattle.words.specs.TopBit.{and_low_top, and_top_low, and_top_top, ones_top, pow_double}
@@ -81,20 +81,3 @@ halved-correlation m a e =
     (λ u l.
     let g : u < 2 ^ m = omega arith in
     halved-entry sums correlation_by_halves m a (at a) e (λ p h. refl) u g ∙ sym (get_or-tabulate (2 ^ m) _ (pos 0) u g))
-
--- ---- a turn of the loop over the pairs, as the code computes it
-
-module _ {h i : ℕ} {a₀ a : List ℤ} (d : PairsDone sums h i a₀ a) (l : i < h) (e : Entries sums (h + h) 1 a₀) where
-  pub pair_first : Half (at a i)
-  unfolding sums
-  pair_first = record { half = omega (arith, (pair_room sums d l e.room).0) }
-
-  pub pair_second : Half (at a (h + i))
-  unfolding sums
-  pair_second = record { half = omega (arith, (pair_room sums d l e.room).1) }
-
-  pub pair_summed :
-      PairsDone sums h (i + 1) a₀
-      (set (set a i (stored (stored (at a i) +ℤ stored (at a (h + i))))) (h + i) (stored (stored (at a i) -ℤ stored (at a (h + i)))))
-  unfolding sums
-  pair_summed = pairs_more sums d l e.size _ _ (sum_stored pair_first pair_second) (difference_stored pair_first pair_second)

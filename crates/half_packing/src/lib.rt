@@ -11,10 +11,8 @@ pub fn pack(h: usize, area: &mut [i32])
     requires { (h ≤ 512) × (4 * h ≡ length area.old) × Bits (h + h) area.old }
     ensures { Written (pos 0) (h + h) h (signs_packed h area.old) area.old area.new }
 {
-    let mut i = 0;
-    while i != h {
+    for i in 0..h {
         let x = area[i] + 2048 * area[h + i];
         area[2 * h + i] = 2049 - 2 * x;
-        i += 1;
     }
 }

@@ -31,16 +31,14 @@ fn pair_sizes(h: usize, part: &mut [i32])
     requires { Packed h part.old }
     ensures { Written (pos 0) h h (λ i. pos (size_of (at part.old i))) part.old part.new }
 {
-    let mut i = 0;
-    while i != h {
+    for i in 0..h {
         let z = part[i];
         part[h + i] = peaks::absolute(first_of(z)) + peaks::absolute(second_of(z));
-        i += 1;
     }
 }
 
 // The peak of the sums and differences of the h pairs packed in the front of the part.
-pub fn search(h: usize, part: &mut [i32]) -> Peak
+pub fn search(h: usize, part: &mut [i32]) -> Option<Peak>
     requires { Packed h part.old }
     ensures { IsPeak (h + h) (joined h (λ j. first_in (at part.old j)) (λ j. second_of (at part.old j))) result }
 {
@@ -49,11 +47,7 @@ pub fn search(h: usize, part: &mut [i32]) -> Peak
     let g = peaks::greatest(&part[h..e]);
     let key = peaks::keys(&part[h..e], g);
     if 131071 < key {
-        return Peak {
-            mask: 0,
-            alone: false,
-            constant: 0,
-        };
+        return None;
     }
     let j = (key % 65536) as usize;
     let z = part[j];

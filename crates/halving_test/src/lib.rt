@@ -5,6 +5,9 @@ ghost use Rattle.std.specs.Prelude.{◌≡◌, ◌^◌, ◌≤◌, ◌<◌, leng
 ghost use Rattle.words.specs.Word.{IsWord};
 ghost use Rattle.code.specs.TestSteps.{all_equal, steps_test};
 
+use coefficients::Parity;
+use transforms::butterfly;
+
 // Whether all places are equal.
 fn all_equal(s: &[u8]) -> bool
     requires { 0 < length s.now }
@@ -12,8 +15,8 @@ fn all_equal(s: &[u8]) -> bool
 {
     let first = s[0];
     let mut all = true;
-    for p in 0..s.len() {
-        all = all & (s[p] == first);
+    for x in s {
+        all &= *x == first;
     }
     all
 }
@@ -33,7 +36,7 @@ fn passes(m: usize, r: usize, t: &mut [u8]) -> bool
     let h = words::size(m - 1);
     let n = h + h;
     // the two halves are added
-    coefficients::butterfly(t, h);
+    butterfly::<_, Parity>(t, h);
     if !passes(m - 1, r - 1, &mut t[h..n]) {
         return false;
     }

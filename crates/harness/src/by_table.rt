@@ -9,7 +9,7 @@ ghost use Rattle.packing.specs.ByTable.{ReturnsLoaded, ReturnsRecord, made, tabl
 
 use packing::by_table;
 use profiles::Profile;
-use refusals::Answer;
+use refusals::Refusal;
 use table_files::Loaded;
 use tables::Table;
 
@@ -29,7 +29,7 @@ pub extern "C" fn rm_decode_table(
     if by_table::pack_number(answer) != 0 {
         return packing::pack_answer(answer);
     }
-    let decoded = table_decoder::decode_table(l.table, number, word, out, area);
+    let decoded = table_decoder::decode_table(&l.table, number, word, out, area);
     packing::pack_decoded(decoded)
 }
 
@@ -64,7 +64,7 @@ pub extern "C" fn rm_decode_made(
         rounds,
         leaves,
     };
-    let answer = table_decoder::decode_table(made_of(count, p), number, word, out, area);
+    let answer = table_decoder::decode_table(&made_of(count, p), number, word, out, area);
     packing::pack_decoded(answer)
 }
 
@@ -74,7 +74,7 @@ fn table_of(file: &[u8]) -> Loaded
 {
     if file.len() == 0 {
         return Loaded {
-            answer: Answer::Done,
+            answer: Ok(()),
             table: tables::ours(),
         };
     }
@@ -92,5 +92,5 @@ pub extern "C" fn rm_record(file: &[u8], rest: &[u8], word: &mut [u8]) -> u64
     if refusal != 0 {
         return refusal;
     }
-    by_table::pack_found(capture::find_record(l.table, rest, 0, word))
+    by_table::pack_found(capture::find_record(&l.table, rest, 0, word))
 }

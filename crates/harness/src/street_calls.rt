@@ -4,6 +4,7 @@ ghost use Rattle.packing.specs.Streets.{ReturnsStreet};
 
 use packing::runs::pack_ran;
 use streets::Plan;
+use tables::Standard;
 
 // Starts a street and makes steps until so many have sent a block, or one answers that none is left.
 #[unsafe(no_mangle)]
@@ -25,6 +26,6 @@ pub extern "C" fn rm_street(
         meters,
         retries,
     };
-    let ran = street_runs::run_profile(profile, plan, start, steps, log, word, area);
+    let ran = street_runs::run(&Standard, profile, plan, start, steps, log, word, area);
     pack_ran(ran)
 }

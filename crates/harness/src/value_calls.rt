@@ -4,7 +4,8 @@ ghost use Rattle.profiles.specs.Profiles.{profile_of};
 ghost use Rattle.confidences.specs.Answers.{confidence_call, confidence_profile_call};
 ghost use Rattle.packing.specs.Confidences.{ReturnsValues};
 
-use confidence_decoder::{decode_confidences, decode_confidences_profile};
+use confidence_decoder::{decode_confidences, decode_confidences_table};
+use tables::Standard;
 
 #[unsafe(no_mangle)]
 pub extern "C" fn rm_decode_confidences(
@@ -31,6 +32,6 @@ pub extern "C" fn rm_decode_confidences_profile(
 ) -> u64
     ensures { ReturnsValues (profile_of profile).m (profile_of profile).r (profile_of profile).rounds (confidence_profile_call profile values.now (length out.old) (length area.old)) values.now out.old out.new area.old area.new result }
 {
-    let answer = decode_confidences_profile(profile, values, out, area);
+    let answer = decode_confidences_table(&Standard, profile, values, out, area);
     packing::pack_decoded(answer)
 }

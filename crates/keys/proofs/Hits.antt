@@ -1,7 +1,6 @@
 -- How many of a quad's sizes are g, and of some quads'. Assumes nothing.
 use Prim.Native.Nat.{ℕ, ◌+◌, ◌*◌, ◌≤◌}
-use mathlib.Core.Path.{◌≡◌, refl, ap, ap₂, ◌∙◌}
-use mathlib.Core.Bool.{Bool, true, false}
+use mathlib.Core.Path.{◌≡◌, ap, ap₂, ◌∙◌}
 use mathlib.Core.List.{List}
 use native.Mathlib.Omega.{arith}
 use lib.Dec.{eqb}
@@ -10,15 +9,11 @@ use mir.Val.{bool_byte}
 use Rattle.words.specs.Sum.{sum_below}
 use Rattle.words.specs.SumLaws.{sum_most}
 use Rattle.words.specs.Word.{indicator}
-use Rattle.words.proofs.WordLaws.{indicator-lt}
+use Rattle.words.proofs.WordLaws.{bool_byte_lem, indicator-lt}
 use Rattle.area.specs.Area.{at}
 use Rattle.area.specs.Numbers.{stored}
 use Rattle.quads.specs.Quads.{sum_size, difference_size, Bounded}
 use Rattle.keys.proofs.Greater.{sizes_held}
-
-byte_is : (t : Bool) → bool_byte t ≡ indicator t
-byte_is true = refl
-byte_is false = refl
 
 module _ (g : ℕ) where
   abbrev pub hits : ℤ → ℕ
@@ -28,7 +23,7 @@ module _ (g : ℕ) where
   hits_most z = omega (arith, indicator-lt (eqb (sum_size z) g), indicator-lt (eqb (difference_size z) g))
 
   hit_is : {x y : ℕ} → x ≡ y → bool_byte (eqb x g) ≡ indicator (eqb y g)
-  hit_is {x} e = byte_is (eqb x g) ∙ ap (λ (n : ℕ). indicator (eqb n g)) e
+  hit_is {x} e = bool_byte_lem (eqb x g) ∙ ap (λ (n : ℕ). indicator (eqb n g)) e
 
   -- as the code counts them
   pub hits_are :

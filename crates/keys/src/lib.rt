@@ -2,7 +2,7 @@
 // side by side in 8 bits each.
 #![tactic(auto)]
 
-ghost use Rattle.std.specs.Prelude.{◌≡◌, ◌/◌, ◌%◌, ◌^◌, ◌≤◌, ◌<◌, pos};
+ghost use Rattle.std.specs.Prelude.{◌≡◌, ◌/◌, ◌%◌, ◌^◌, ◌<◌, pos};
 ghost use Rattle.quads.specs.Quads.{sum_size, difference_size, Bounded};
 ghost use Rattle.keys.specs.Keys.{BoundedAll, pairs, offs, key_of, greatest_key, count_of};
 
@@ -51,15 +51,14 @@ pub fn greatest_key(quads: &[i32]) -> i32
     ensures { result ≡ pos (greatest_key quads.now) }
 {
     let mut g: i32 = 0;
+    // Counted beside the quads in 32 bits: from a place of 64 bits the compiler makes two masks at a time, not four.
     let mut k: u32 = 0;
-    let mut i = 0;
-    while i < quads.len() {
-        let x = key_of(quads[i], k);
+    for z in quads {
+        let x = key_of(*z, k);
         if g < x {
             g = x;
         }
         k += 4;
-        i += 1;
     }
     g
 }
@@ -70,11 +69,9 @@ pub fn count_of(quads: &[i32], g: u32) -> u32
     ensures { result ≡ count_of quads.now g }
 {
     let mut c: u32 = 0;
-    let mut i = 0;
-    while i < quads.len() {
-        let b = sizes_of(quads[i]);
-        c += (b % 256 == g) as u32 + (b / 256 % 256 == g) as u32;
-        i += 1;
+    for z in quads {
+        let b = sizes_of(*z);
+        c += u32::from(b % 256 == g) + u32::from(b / 256 % 256 == g);
     }
     c
 }

@@ -1,10 +1,8 @@
 -- The lines of the meter listing: document 01, "Captures and the meter listing". Text is a list of bytes. Assumes nothing.
-use Rattle.std.specs.Prelude.{ℕ, cond, List, [], ◌∷◌, ◌++◌, replicate, eqb}
+use Rattle.std.specs.Prelude.{ℕ, cond, List, [], ◌∷◌, ◌++◌, replicate, eqb, Ok, Err}
 use Rattle.text.specs.Numbers.{ten_digits, decimal, hex_of}
 use Rattle.refusals.specs.declared.Refusal.TheVariants.{Header}
-use Rattle.refusals.specs.declared.Decoded.{Decoded}
-use Rattle.refusals.specs.declared.Decoded.TheVariants.{Accepted, Refused}
-use Rattle.refusals.specs.Refusals.{number_of}
+use Rattle.refusals.specs.Refusals.{Decoded, number_of}
 use Rattle.code.specs.Code.{message_of}
 use Rattle.profiles.specs.declared.Profile.{Profile}
 use Rattle.rule.specs.Reading.{Outcome, accepted, refused}
@@ -55,8 +53,8 @@ accepted_in (refused e k l) = 0
 
 -- the same of the code's answer
 abbrev pub accepted_by : Decoded → ℕ
-accepted_by (Accepted k l c) = 1
-accepted_by (Refused why k l) = 0
+accepted_by (Ok d) = 1
+accepted_by (Err e) = 0
 
 -- a record's entry, by what the decoder gives under its profile p
 abbrev pub decoded_by : Profile → List ℕ → Outcome

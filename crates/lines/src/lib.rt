@@ -2,57 +2,69 @@
 #![tactic(auto)]
 
 ghost use Rattle.std.specs.Prelude.{◌≡◌, ◌+◌, ◌≤◌, length};
-ghost use Rattle.text.specs.Texts.{Appended};
+ghost use Rattle.text.specs.Texts.{Appended, Added};
 ghost use Rattle.lines.specs.Lines.{accepted_by, billing, cut_line, refusal_text, refused_line};
 
-use refusals::Decoded;
+use refusals::{Accepted, Refused};
+use text::Writer;
 
 // " refused " and the number.
-pub fn put_refusal(number: u8, out: &mut [u8], at: usize) -> usize
-    requires { at + length (refusal_text number) ≤ length out.old }
-    ensures { Appended out.old at (refusal_text number) result out.new }
+pub fn put_refusal(w: &mut Writer, number: u8)
+    requires { w.old.at + length (refusal_text number) ≤ length w.old.out.now }
+    ensures { Added (refusal_text number) w.old w.new }
 {
-    let a = text::put_text(b" refused ", out, at);
-    text::put_decimal(number as u64, out, a)
+    w.put_text(b" refused ");
+    w.put_decimal(u64::from(number));
 }
 
 // The line of a refused record.
-pub fn refused_line(serial: u32, number: u8, out: &mut [u8], at: usize) -> usize
-    requires { at + length (refused_line serial number) ≤ length out.old }
-    ensures { Appended out.old at (refused_line serial number) result out.new }
+pub fn refused_line(w: &mut Writer, serial: u32, number: u8)
+    requires { w.old.at + length (refused_line serial number) ≤ length w.old.out.now }
+    ensures { Added (refused_line serial number) w.old w.new }
 {
-    let a = text::put_ten(serial, out, at);
-    let b = put_refusal(number, out, a);
-    text::put_byte(10, out, b)
+    w.put_ten(serial);
+    put_refusal(w, number);
+    w.put_byte(10);
 }
 
 // The line of a record that the capture's end cuts off.
-pub fn cut_line(out: &mut [u8], at: usize) -> usize
-    requires { at + length cut_line ≤ length out.old }
-    ensures { Appended out.old at cut_line result out.new }
+pub fn cut_line(w: &mut Writer)
+    requires { w.old.at + length cut_line ≤ length w.old.out.now }
+    ensures { Added cut_line w.old w.new }
 {
-    let a = text::put_text(b"----------", out, at);
-    let b = put_refusal(16, out, a);
-    text::put_byte(10, out, b)
+    w.put_text(b"----------");
+    put_refusal(w, 16);
+    w.put_byte(10);
 }
 
-// Billing's line of a refusal of the capture reader, by its number: 16 has ten hyphens for the serial.
+// By its number, for any number: 16 has ten hyphens for the serial.
+fn put_refused(w: &mut Writer, serial: u32, number: u8)
+    requires { w.old.at + 23 ≤ length w.old.out.now }
+    ensures { Added (billing.of_refusal number serial) w.old w.new }
+{
+    if number == 16 {
+        cut_line(w);
+    } else {
+        refused_line(w, serial, number);
+    }
+}
+
+// Billing's line of a refusal of the capture reader.
 pub fn refusal_line(number: u8, serial: u32, out: &mut [u8], at: usize) -> usize
     requires { at + 23 ≤ length out.old }
     ensures { Appended out.old at (billing.of_refusal number serial) result out.new }
 {
-    if number == 16 {
-        return cut_line(out, at);
-    }
-    refused_line(serial, number, out, at)
+    let mut w = Writer { out, at };
+    put_refused(&mut w, serial, number);
+    w.at
 }
 
 // 1 where the decoder accepted, else 0.
-pub fn accepted_in(answer: Decoded) -> usize
+pub fn accepted_in(answer: Result<Accepted, Refused>) -> usize
     ensures { result ≡ accepted_by answer }
 {
     match answer {
-        Decoded::Accepted(_, _, _) => 1,
-        Decoded::Refused(_, _, _) => 0,
+        Ok(_) => 1,
+        Err(_) => 0,
     }
 }

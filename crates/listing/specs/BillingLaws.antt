@@ -6,9 +6,8 @@ use Rattle.std.proofs.Math.Decide.{dec_le}
 use Rattle.profiles.specs.Profiles.{profile_of}
 use Rattle.refusals.proofs.CheckLaws.{no_more, passes}
 use Rattle.refusals.specs.Refusals.{Check, code_checks, first_refusal}
-use Rattle.tables.specs.declared.Slot.{Slot}
 use Rattle.tables.specs.Tables as tables
-use Rattle.tables.specs.Tables.{ours, some}
+use Rattle.tables.specs.Tables.{Slot, held, is_there, ours, some}
 use Rattle.tables.specs.Slots.{ours-none, ours_there}
 use Rattle.rule.specs.Reading.{Outcome, accepted, refused}
 use Rattle.rule.specs.Decoding.{after, decode_of, decode_profile_of, limit_checks, profile_checks}
@@ -65,14 +64,14 @@ entry_same number h serial s =
 
 -- an answer's entries
 module _ (s : List ℕ) (f g : List ℕ → List Entry) (same : (u : List ℕ) → f u ≡ g u) (slot : Slot)
-    (entries : slot.known ≡ true → (serial : ℕ) → record_entry billing serial (profile_at s) slot.profile (unpacked slot s) ≡ document.record_entry serial (profile_at s) (document.unpacked (profile_at s) s)) where
+    (entries : is_there slot ≡ true → (serial : ℕ) → record_entry billing serial (profile_at s) (held slot) (unpacked slot s) ≡ document.record_entry serial (profile_at s) (document.unpacked (profile_at s) s)) where
   by_answer : (a : Answer) → start slot s ≡ a → entries_for billing slot a s f ≡ document.entries_for a s g
   by_answer none_left e = refl
   by_answer (capture.refused number serial) e = refl
   by_answer (record_at serial number next) e =
       let r = record_of slot s e in
       ap₂ (λ (x : Entry) (es : List Entry). x ∷ es)
-      (ap (λ (n : ℕ). record_entry billing serial n slot.profile (unpacked slot s)) r.number_is
+      (ap (λ (n : ℕ). record_entry billing serial n (held slot) (unpacked slot s)) r.number_is
       ∙ entries r.known serial
       ∙ ap (λ (n : ℕ). document.record_entry serial n (document.unpacked n s)) (sym r.number_is))
       (same (drop next s))

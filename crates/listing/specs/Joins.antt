@@ -5,7 +5,7 @@ use Rattle.std.proofs.Math.ListN.{length-drop}
 use Rattle.header.specs.Header.{header_test}
 use Rattle.header.specs.HeaderLaws.{header_first}
 use Rattle.tables.specs.declared.Table.{Table}
-use Rattle.tables.specs.declared.Slot.{Slot}
+use Rattle.tables.specs.Tables.{Slot, held}
 use Rattle.rule.specs.Reading.{Outcome, accepted, refused}
 use Rattle.capture.specs.Capture as capture
 use Rattle.capture.specs.Capture.{slot_at, unpacked}
@@ -38,7 +38,7 @@ unfolding record_entry
 one_more reader slot capture.none_left s more k h = (omega arith, omega arith)
 one_more reader slot (capture.refused number serial) s more k h = (omega arith, omega arith)
 one_more reader slot (capture.record_at serial number next) s more k h =
-    (omega (arith, (h (drop next s)).0), omega (arith, (h (drop next s)).1, ok_most (decoded_by slot.profile (unpacked slot s))))
+    (omega (arith, (h (drop next s)).0), omega (arith, (h (drop next s)).1, ok_most (decoded_by (held slot) (unpacked slot s))))
 
 few_entries : (t : Table) (reader : Lines) (k : ℕ) (s : List ℕ) → (length (entries_of t reader k s) ≤ k) × (accepted_of (entries_of t reader k s) ≤ k)
 unfolding entries_of

@@ -6,7 +6,7 @@ use Rattle.std.proofs.Math.Decide.{dec_lt}
 use borrow.Rule.Slice.PartMut.{put_mid}
 use Rattle.rule.specs.Decoding.{zeros}
 use Rattle.tables.specs.declared.Table.{Table}
-use Rattle.tables.specs.declared.Slot.{Slot}
+use Rattle.tables.specs.Tables.{Slot}
 use Rattle.lines.specs.Lines.{Lines}
 use Rattle.capture.specs.Capture.{slot_at}
 use Rattle.pieces.specs.declared.Listed.{Listed}

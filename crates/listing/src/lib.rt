@@ -7,7 +7,7 @@ ghost use Rattle.readers.specs.Readers.{lines_for};
 
 use pieces::Listed;
 use readers::Reader;
-use tables::Table;
+use tables::{Profiles, Table};
 
 // The same as `list_part`, by way of two buffers for the longest words.
 fn list_in(
@@ -30,11 +30,12 @@ fn list_in(
         accepted: 0,
         ended: false,
     };
+    // By what was listed: records differ in length, so that no range counts them.
     while !d.ended {
         let from = d.consumed;
         let to = d.written;
         let number = capture::number_at(&part[from..]);
-        let slot = tables::find(table.count, number, table.entries[number % 32]);
+        let slot = table.look(number);
         if !pieces::is_ready(slot, &part[from..], last, out.len() - to, area.len()) {
             return d;
         }

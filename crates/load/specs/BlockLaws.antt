@@ -9,7 +9,7 @@ use Rattle.words.proofs.WordLaws.{word_add, word_bit}
 use Rattle.words.specs.Xor.{xor_bits}
 use Rattle.code.specs.Code.{dimension}
 use Rattle.refusals.specs.IsCode.{IsCode}
-use Rattle.refusals.specs.declared.Answer.{Answer}
+use Rattle.refusals.specs.Refusals.{Answer}
 use Rattle.codec_checks.specs.Passed.{encode_passes}
 use Rattle.codec.specs.Calls.{Encodes}
 use Rattle.codec.specs.CallLaws.{call_passed}

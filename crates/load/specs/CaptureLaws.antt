@@ -3,14 +3,13 @@ use Prim.Native.Nat.{ℕ, ◌+◌, ◌-◌, ◌*◌, ◌/◌, ◌%◌, ◌^◌, 
 use Rattle.std.proofs.Common.{arith, div-add-mod', mul-div_cancel, mul-le-mul_right, ◌∙◌}
 use Rattle.std.proofs.Math.Nat.{mul-mod_left, suc-mul}
 use Rattle.std.proofs.Math.Numerals.{add-one}
-use Rattle.std.specs.Prelude.{◌≡◌, refl, Bool, false, drop, take}
+use Rattle.std.specs.Prelude.{◌≡◌, refl, Bool, false, drop, take, Ok, Err}
 use Rattle.std.proofs.Math.Path.{sym, ap, ap₂}
 use Rattle.std.proofs.Math.Bool.{true}
 use Rattle.std.proofs.lemmas.Bool.{false≢true}
 use mathlib.Core.List.{List, [], ◌++◌}
 use Rattle.std.proofs.Math.Dec.{eqb, ltb}
 use Rattle.std.proofs.Math.ListN.{length}
-use mir.Val.{bool_byte}
 use borrow.Author.Tests.{eq-eqb, eqb-true, ne_eqb}
 use borrow.Rule.Slice.PartMut.{put_mid}
 use Rattle.words.specs.Parts.{part_length, written_part}
@@ -21,11 +20,9 @@ use Rattle.words.proofs.WordLaws.{indicator-lt}
 use Rattle.words.specs.Written.{Written, written_all, written_none, written_to}
 use Rattle.refusals.specs.Refusals.{Checked, answer_number, answer_place, first_refusal}
 use Rattle.refusals.proofs.CheckLaws.{number_pos}
-use Rattle.refusals.specs.declared.Answer.TheVariants.{Done, Refused}
 use Rattle.refusals.specs.declared.Refusal.{Refusal}
-use Rattle.tables.specs.declared.Slot.{Slot}
 use Rattle.tables.specs.declared.Table.{Table}
-use Rattle.tables.specs.Tables.{known, slot_of}
+use Rattle.tables.specs.Tables.{Slot, held, is_there, known, slot_of}
 use Rattle.tables.specs.Limits.{is_known}
 use Rattle.tables.specs.Slots.{Proper, slot_proper, slot_unknown}
 use Rattle.header.specs.Header.{header}
@@ -46,7 +43,7 @@ pub drawn_word : {m r asked x : ℕ} {sent block : List ℕ} {p : Places} → Bl
 drawn_word {m} {r} {asked} {x} d = rw d.block_is (block_word m r asked x)
 
 pub record_drawn :
-    {slot : Slot} {number asked x i : ℕ} {sent block out : List ℕ} {p : Places} → BlockDrawn slot.profile.m slot.profile.r asked x sent block p
+    {slot : Slot} {number asked x i : ℕ} {sent block out : List ℕ} {p : Places} → BlockDrawn (held slot).m (held slot).r asked x sent block p
     → out ≡ record_bytes (i % 2 ^ 32) number block → RecordDrawn slot number asked x i out p
 unfolding left_short
 record_drawn {asked = asked} d e = record { bytes = e ∙ rw d.block_is; state = d.state; short = ap (λ (w : ℕ). ltb w asked) d.wrong }
@@ -55,15 +52,10 @@ record_drawn {asked = asked} d e = record { bytes = e ∙ rw d.block_is; state =
 
 -- whether block i is left short, and as a number
 abbrev left_at : Slot → ℕ → ℕ → ℕ → Bool
-left_at slot asked start i = left_short slot.profile.m slot.profile.r asked (state_at slot asked start i)
+left_at slot asked start i = left_short (held slot).m (held slot).r asked (state_at slot asked start i)
 
 abbrev short_at : Slot → ℕ → ℕ → ℕ → ℕ
 short_at slot asked start i = indicator (left_at slot asked start i)
-
--- a test as a number, as the code casts it
-pub bool_byte_lem : (b : Bool) → bool_byte b ≡ indicator b
-bool_byte_lem true = refl
-bool_byte_lem false = refl
 
 -- i records are written
 pub record Recorded (slot : Slot) (number asked start blocks : ℕ) (before after : List ℕ) (state short i : ℕ) : Type 0 where
@@ -90,8 +82,8 @@ module _ {slot : Slot} {number asked start blocks : ℕ} {before after : List �
   few_short = omega (arith, r.short_is, sum_most i 1 (short_at slot asked start) (λ j l. omega (arith, indicator-lt (left_at slot asked start j))))
 
   -- one more left short is still counted
-  pub short_fits : i < blocks → (b : Bool) → short + bool_byte b ≤ blocks
-  short_fits l b = omega (arith, few_short, bool_byte_lem b, indicator-lt b)
+  pub short_fits : i < blocks → (b : Bool) → short + indicator b ≤ blocks
+  short_fits l b = omega (arith, few_short, indicator-lt b)
 
   -- what record i is
   record_is : {zs : List ℕ} {p : Places} → RecordDrawn slot number asked state i zs p → zs ≡ nth_record slot number asked start i
@@ -107,7 +99,7 @@ module _ {slot : Slot} {number asked start blocks : ℕ} {before after : List �
     record_room e l = rw e (room l)
 
     pub recorded_more : {s : ℕ} {zs : List ℕ} {p : Places} {short' : ℕ} → s ≡ record_size slot → i < blocks → RecordDrawn slot number asked state i zs p
-        → short' ≡ short + bool_byte (ltb p.wrong asked)
+        → short' ≡ short + indicator (ltb p.wrong asked)
         → Recorded slot number asked start blocks before (put_mid (i * s) (i * s + s - i * s) after zs) p.state short' (i + 1)
     unfolding state_before short_among
     recorded_more {s} {zs} {p} {short'} es l d e =
@@ -123,10 +115,10 @@ module _ {slot : Slot} {number asked start blocks : ℕ} {before after : List �
           long = w.long;
           written = written_to w ((i + 1) * record_size slot) (omega (arith, suc-mul i (record_size slot), ap (λ (k : ℕ). k * record_size slot) (add-one i)));
           state_is = d.state ∙ rw (r.state_is, add-one i);
-          short_is = e ∙ ap₂ ◌+◌ r.short_is (bool_byte_lem (ltb p.wrong asked) ∙ ap indicator left) ∙ sym (sum_more i (short_at slot asked start));
+          short_is = e ∙ ap₂ ◌+◌ r.short_is (ap indicator left) ∙ sym (sum_more i (short_at slot asked start));
         }
 
-    pub recorded_all : blocks ≤ i → RecordsDrawn slot number asked start blocks after (record { answer = Done; state = state; short = short })
+    pub recorded_all : blocks ≤ i → RecordsDrawn slot number asked start blocks after (record { answer = (Ok tt); state = state; short = short })
     recorded_all h =
         let e : i ≡ blocks = omega (arith, r.within) in
         let all : ℕ = blocks * record_size slot in
@@ -163,8 +155,8 @@ module _ (n blocks size : ℕ) where
 -- ---- the call
 
 module _ (slot : Slot) (number start asked blocks : ℕ) {out : List ℕ} where
-  pub capture_refused : {why : Refusal} → Checked (capture_checks slot start asked blocks (length out)) [] (Refused why)
-      → Writes slot number start asked blocks out out (record { answer = Refused why; state = start; short = 0 })
+  pub capture_refused : {why : Refusal} → Checked (capture_checks slot start asked blocks (length out)) [] (Err why)
+      → Writes slot number start asked blocks out out (record { answer = Err why; state = start; short = 0 })
   capture_refused {why} c =
       let n : ℕ = first_refusal (capture_checks slot start asked blocks (length out)) in
       let some : eqb n 0 ≡ false = ne_eqb n 0 (λ (e : n ≡ 0). omega (arith, c.number, number_pos why)) in
@@ -185,9 +177,9 @@ module _ (slot : Slot) (number start asked blocks : ℕ) {out : List ℕ} where
       }
 
 -- what a table has at a number is within the limits, and its number is below 32
-pub slot_fit : (t : Table) (number : ℕ) {slot : Slot} → slot ≡ slot_of t number → Proper slot × (slot.known ≡ true → number < 256)
+pub slot_fit : (t : Table) (number : ℕ) {slot : Slot} → slot ≡ slot_of t number → Proper slot × (is_there slot ≡ true → number < 256)
 slot_fit t number e = rw e (slot_proper t number, go (known t number) refl)
   where
-    go : (b : Bool) → known t number ≡ b → (slot_of t number).known ≡ true → number < 256
+    go : (b : Bool) → known t number ≡ b → is_there (slot_of t number) ≡ true → number < 256
     go true k h = omega (arith, (is_known t number k).within)
-    go false k h = absurd (false≢true (ap (λ (s : Slot). s.known) (sym (slot_unknown t number k)) ∙ h))
+    go false k h = absurd (false≢true (ap (λ (s : Slot). is_there s) (sym (slot_unknown t number k)) ∙ h))

@@ -3,7 +3,7 @@ use Rattle.std.specs.Prelude.{ℕ, zero, suc, ◌^◌, ◌≡◌, Bool, ◌&&◌
 use Rattle.words.specs.Word.{add_words}
 use Rattle.code.specs.Code.{codeword, dimension}
 use Rattle.refusals.specs.Refusals.{Check, answer_number, answer_place, check, first_refusal}
-use Rattle.tables.specs.declared.Slot.{Slot}
+use Rattle.tables.specs.Tables.{Slot, is_there, held}
 use Rattle.capture.specs.Capture.{word_size}
 use Rattle.generator.specs.Generator.{Drawn, message_from, places_from, steps, wrong_in}
 use Rattle.load.specs.declared.Next.{Next}
@@ -39,7 +39,7 @@ state_before m r asked start (suc i) = state_after m r asked (state_before m r a
 
 -- "21, a start of 0; 22, more wrong places asked than n, tested after 21. The profile's 14 precedes both"
 abbrev pub start_checks : Slot → ℕ → ℕ → List Check
-start_checks slot x asked = check 14 slot.known ∷ check 21 (not (eqb x 0)) ∷ check 22 (leb asked (word_size slot)) ∷ []
+start_checks slot x asked = check 14 (is_there slot) ∷ check 21 (not (eqb x 0)) ∷ check 22 (leb asked (word_size slot)) ∷ []
 
 -- "6 for the block's buffer follows them"
 abbrev pub block_checks : Slot → ℕ → ℕ → ℕ → List Check
@@ -51,13 +51,13 @@ module _ (slot : Slot) (x asked : ℕ) (word : List ℕ) where
   block_refusal = first_refusal (block_checks slot x asked (length word))
 
   abbrev pub block_of : List ℕ
-  block_of = cond (eqb block_refusal 0) (block_from slot.profile.m slot.profile.r asked x) word
+  block_of = cond (eqb block_refusal 0) (block_from (held slot).m (held slot).r asked x) word
 
   abbrev pub state_of : ℕ
-  state_of = cond (eqb block_refusal 0) (state_after slot.profile.m slot.profile.r asked x) x
+  state_of = cond (eqb block_refusal 0) (state_after (held slot).m (held slot).r asked x) x
 
   abbrev pub short_of : Bool
-  short_of = eqb block_refusal 0 && left_short slot.profile.m slot.profile.r asked x
+  short_of = eqb block_refusal 0 && left_short (held slot).m (held slot).r asked x
 
   pub record Draws (after : List ℕ) (a : Next) : Type 0 where
     pub number : answer_number a.answer ≡ block_refusal

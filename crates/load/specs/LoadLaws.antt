@@ -11,7 +11,7 @@ use Rattle.code.specs.Code.{IsCodeword, dimension}
 use Rattle.code.proofs.Inverse.{encoder_codeword}
 use Rattle.refusals.specs.Refusals.{first_refusal}
 use Rattle.refusals.proofs.CheckLaws.{passed, passes}
-use Rattle.tables.specs.declared.Slot.{Slot}
+use Rattle.tables.specs.Tables.{Slot, held}
 use Rattle.generator.specs.Generator.{steps, wrong_in}
 use Rattle.generator.specs.StepLaws.{Live, steps_live}
 use Rattle.generator.specs.PlaceLaws.{FewWrong, places_live, places_noise}
@@ -76,10 +76,10 @@ before_live m r asked h (suc i) = after_live m r asked (before_live m r asked h 
 -- once a block is drawn, so is the next
 pub load_goes_on :
     (slot : Slot) (x asked room : ℕ) → x < 2 ^ 32 → first_refusal (block_checks slot x asked room) ≡ 0
-    → first_refusal (block_checks slot (state_after slot.profile.m slot.profile.r asked x) asked room) ≡ 0
+    → first_refusal (block_checks slot (state_after (held slot).m (held slot).r asked x) asked room) ≡ 0
 load_goes_on slot x asked room h e =
     let c14 = passed 13 _ _ e in
     let c21 = passed 20 _ _ c14.1 in
-    let y : ℕ = state_after slot.profile.m slot.profile.r asked x in
-    let some : y ≢ 0 = (after_live slot.profile.m slot.profile.r asked record { small = h; some = eqb-false x 0 (not-true _ c21.0) }).some in
+    let y : ℕ = state_after (held slot).m (held slot).r asked x in
+    let some : y ≢ 0 = (after_live (held slot).m (held slot).r asked record { small = h; some = eqb-false x 0 (not-true _ c21.0) }).some in
     sym (passes 14 _ _ c14.0 (passes 21 _ _ (ap not (ne_eqb y 0 some)) (sym c21.1)))

@@ -8,14 +8,12 @@ use Rattle.std.proofs.Math.Seq.{get_or-append-add, get_or-drop}
 use Rattle.words.specs.Sum.{total}
 use Rattle.words.specs.SumLaws.{tabulate_ext, tabulate-get_or}
 use Rattle.words.specs.Word.{bit}
-use Rattle.tables.specs.declared.Slot.{Slot}
 use Rattle.tables.specs.declared.Table.{Table}
-use Rattle.tables.specs.Tables.{known, slot_of}
+use Rattle.tables.specs.Tables.{Slot, held, is_there, known, slot_of}
 use Rattle.tables.specs.Slots.{Proper, slot_known, slot_proper}
 use Rattle.header.specs.Header.{header, header_test}
 use Rattle.unpacking.specs.Packed.{packed_bit}
-use Rattle.capture.specs.declared.Found.{Found}
-use Rattle.capture.specs.Capture.{Answer, Finds, Stands, answer_of, buffer_of, none_left, profile_at, record_at, record_in, record_size, slot_at, unpacked, word_size}
+use Rattle.capture.specs.Capture.{Found, Answer, Finds, Stands, answer_of, buffer_of, none_left, profile_at, record_at, record_in, record_size, slot_at, unpacked, word_size}
 use Rattle.capture.specs.Cases.{Sized, none, sized, whole}
 use Rattle.load.specs.Records.{block_at, capture_of, capture_size, nth_record, record_bytes}
 use Rattle.load.specs.LoadLaws.{block_word}
@@ -35,7 +33,7 @@ module _ (slot : Slot) (number asked start : ℕ) where
   unfolding nth_record
   record_size_lem i =
       record_length (i % 2 ^ 32) number (block_at slot asked start i)
-      ∙ ap (λ (n : ℕ). 5 + n / 8) (block_word slot.profile.m slot.profile.r asked _).size
+      ∙ ap (λ (n : ℕ). 5 + n / 8) (block_word (held slot).m (held slot).r asked _).size
 
   module _ (blocks : ℕ) where
     pub capture_length : length (capture_of slot number asked start blocks) ≡ capture_size slot blocks
@@ -56,12 +54,12 @@ module _ (slot : Slot) (number asked start : ℕ) where
     unfolding capture_of
     head_right = rw (le-ltb (length (header ++ total ◌++◌ [] blocks (nth_record slot number asked start))) 5 (omega (arith, length-append header (total ◌++◌ [] blocks (nth_record slot number asked start)))))
 
-    module _ (sizes : Sized slot) (is : slot.known ≡ true) (i : ℕ) (l : i < blocks) where
+    module _ (sizes : Sized slot) (is : is_there slot ≡ true) (i : ℕ) (l : i < blocks) where
       abbrev rest : List ℕ
       rest = drop (capture_size slot i) (capture_of slot number asked start blocks)
 
       size : length (block_at slot asked start i) ≡ word_size slot
-      size = (block_word slot.profile.m slot.profile.r asked _).size
+      size = (block_word (held slot).m (held slot).r asked _).size
 
       record_here : (q : ℕ) → q < 5 + length (block_at slot asked start i) / 8
           → get_or rest q 0 ≡ get_or (record_bytes (i % 2 ^ 32) number (block_at slot asked start i)) q 0
@@ -85,10 +83,10 @@ module _ (slot : Slot) (number asked start : ℕ) where
       unfolding unpacked
       word_here =
           tabulate_ext (word_size slot) (packed_bit rest) (bit (block_at slot asked start i))
-          (λ p h. reads_bit (i % 2 ^ 32) number _ rest record_here (block_word slot.profile.m slot.profile.r asked _).bits (omega (arith, size, sizes.bytes)) p (omega (arith, size)))
+          (λ p h. reads_bit (i % 2 ^ 32) number _ rest record_here (block_word (held slot).m (held slot).r asked _).bits (omega (arith, size, sizes.bytes)) p (omega (arith, size)))
           ∙ tabulate-get_or (word_size slot) (block_at slot asked start i) 0 size
 
-    pub reads_back : Proper slot → slot.known ≡ true → ReadsBack slot number asked start blocks (capture_of slot number asked start blocks)
+    pub reads_back : Proper slot → is_there slot ≡ true → ReadsBack slot number asked start blocks (capture_of slot number asked start blocks)
     reads_back p is =
         let sizes = sized slot p is in
         record {
@@ -107,7 +105,7 @@ pub call_reads_back :
     → (answer_of f ≡ record_at (i % 2 ^ 32) number (capture_size (slot_of t number) (suc i))) × (word' ≡ block_at (slot_of t number) asked start i)
 call_reads_back t number asked start blocks k i l {word} {word'} {f} room c =
     let slot : Slot = slot_of t number in
-    let is : slot.known ≡ true = ap (λ (s : Slot). s.known) (slot_known t number k) in
+    let is : is_there slot ≡ true = ap (λ (s : Slot). is_there s) (slot_known t number k) in
     let sizes : Sized slot = sized slot (slot_proper t number) is in
     let at : ℕ = capture_size slot i in
     let rest : List ℕ = drop at (capture_of slot number asked start blocks) in

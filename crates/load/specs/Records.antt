@@ -3,7 +3,7 @@ use Rattle.std.specs.Prelude.{ℕ, ◌+◌, ◌*◌, ◌/◌, ◌%◌, ◌^◌, 
 use Rattle.words.specs.Sum.{sum_below, tabulate, total}
 use Rattle.words.specs.Word.{bit, indicator}
 use Rattle.refusals.specs.Refusals.{Check, answer_number, answer_place, check, first_refusal}
-use Rattle.tables.specs.declared.Slot.{Slot}
+use Rattle.tables.specs.Tables.{Slot, held}
 use Rattle.header.specs.Header.{header}
 use Rattle.capture.specs.Capture.{record_size}
 use Rattle.load.specs.declared.Captured.{Captured}
@@ -26,14 +26,14 @@ record_bytes serial profile word =
 module _ (slot : Slot) (asked start : ℕ) where
   -- the state that block i is drawn from
   abbrev pub state_at : ℕ → ℕ
-  state_at i = state_before slot.profile.m slot.profile.r asked start i
+  state_at i = state_before (held slot).m (held slot).r asked start i
 
   abbrev pub block_at : ℕ → List ℕ
-  block_at i = block_from slot.profile.m slot.profile.r asked (state_at i)
+  block_at i = block_from (held slot).m (held slot).r asked (state_at i)
 
   -- how many of the first blocks are left short
   unfoldable pub short_among : ℕ → ℕ
-  short_among blocks = sum_below blocks (λ i. indicator (left_short slot.profile.m slot.profile.r asked (state_at i)))
+  short_among blocks = sum_below blocks (λ i. indicator (left_short (held slot).m (held slot).r asked (state_at i)))
 
 module _ (slot : Slot) (profile asked start : ℕ) where
   -- "A block's serial is its number from 0, kept to 32 bits."

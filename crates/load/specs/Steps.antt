@@ -1,13 +1,12 @@
 -- What the functions that draw blocks and write records ask and promise. Assumes nothing.
-use Rattle.std.specs.Prelude.{ℕ, ◌*◌, ◌%◌, ◌^◌, ◌<◌, ◌≡◌, false, true, List, [], ◌++◌, ltb, length}
+use Rattle.std.specs.Prelude.{ℕ, ◌*◌, ◌%◌, ◌^◌, ◌<◌, ◌≡◌, false, true, List, [], ◌++◌, ltb, length, Result, Ok, Err}
 use Rattle.words.specs.Sum.{total}
 use Rattle.words.specs.Word.{bit}
 use Rattle.code.specs.Code.{dimension}
-use Rattle.refusals.specs.Refusals.{Checked}
-use Rattle.refusals.specs.declared.Answer.{Answer}
-use Rattle.refusals.specs.declared.Answer.TheVariants.{Done, Refused}
+use Rattle.refusals.specs.Refusals.{Checked, Answer}
 use Rattle.refusals.specs.declared.Refusal.{Refusal}
-use Rattle.tables.specs.declared.Slot.{Slot}
+use Rattle.profiles.specs.declared.Profile.{Profile}
+use Rattle.tables.specs.Tables.{Slot, held, is_there, some}
 use Rattle.tables.specs.Slots.{Proper}
 use Rattle.generator.specs.Generator.{steps, wrong_in}
 use Rattle.generator.specs.declared.Places.{Places}
@@ -16,13 +15,19 @@ use Rattle.load.specs.Records.{nth_record, record_bytes, short_among, state_at}
 use Rattle.load.specs.declared.Captured.{Captured}
 use Rattle.load.specs.declared.Next.{Next}
 
--- the checks before that of a buffer's length
-pub record Started (slot : Slot) (x asked : ℕ) (a : Answer) : Type 0 where
-  pub checked : Checked (start_checks slot x asked) [] a
+-- what the checks say, without the entry that passes
+abbrev pub tested : Result Profile Refusal → Answer
+tested (Ok p) = Ok tt
+tested (Err why) = Err why
+
+-- the checks before that of a buffer's length; what passes is the entry
+pub record Started (slot : Slot) (x asked : ℕ) (a : Result Profile Refusal) : Type 0 where
+  pub checked : Checked (start_checks slot x asked) [] (tested a)
+  pub given : (p : Profile) → a ≡ Ok p → slot ≡ some p
 
 -- what a refused call answers
 abbrev pub refusing : Refusal → ℕ → Next
-refusing why x = record { answer = Refused why; state = x; short = false }
+refusing why x = record { answer = Err why; state = x; short = false }
 
 -- a codeword drawn from the state x: the codeword, and the state after its message
 pub record SentDrawn (m r x : ℕ) (sent : List ℕ) (y : ℕ) : Type 0 where
@@ -44,18 +49,18 @@ pub record Packable (word out : List ℕ) : Type 0 where
 -- an entry that is there, with a number of one byte
 pub record Usable (slot : Slot) (number : ℕ) : Type 0 where
   pub proper : Proper slot
-  pub known : slot.known ≡ true
+  pub known : is_there slot ≡ true
   pub byte : number < 256
 
 -- block i drawn from the state x, and its record
 pub record RecordDrawn (slot : Slot) (number asked x i : ℕ) (out : List ℕ) (p : Places) : Type 0 where
-  pub bytes : out ≡ record_bytes (i % 2 ^ 32) number (block_from slot.profile.m slot.profile.r asked x)
-  pub state : p.state ≡ state_after slot.profile.m slot.profile.r asked x
-  pub short : ltb p.wrong asked ≡ left_short slot.profile.m slot.profile.r asked x
+  pub bytes : out ≡ record_bytes (i % 2 ^ 32) number (block_from (held slot).m (held slot).r asked x)
+  pub state : p.state ≡ state_after (held slot).m (held slot).r asked x
+  pub short : ltb p.wrong asked ≡ left_short (held slot).m (held slot).r asked x
 
 -- the first blocks of a load drawn, and their records
 pub record RecordsDrawn (slot : Slot) (number asked start blocks : ℕ) (out : List ℕ) (a : Captured) : Type 0 where
-  pub answer : a.answer ≡ Done
+  pub answer : a.answer ≡ (Ok tt)
   pub bytes : out ≡ total ◌++◌ [] blocks (nth_record slot number asked start)
   pub state : a.state ≡ state_at slot asked start blocks
   pub short : a.short ≡ short_among slot asked start blocks

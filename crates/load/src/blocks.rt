@@ -13,7 +13,7 @@ fn draw_sent(m: usize, r: usize, state: u32, message: &mut [u8], sent: &mut [u8]
     ensures { SentDrawn m r state sent.new result }
 {
     let y = generator::draw_message(state, message);
-    codec::encode(m, r, message, sent);
+    let _ = codec::encode(m, r, message, sent);
     y
 }
 
@@ -22,8 +22,8 @@ fn add(m: usize, word: &[u8], out: &mut [u8])
     requires { IsWord m word.now × IsWord m out.old }
     ensures { out.new ≡ add_words word.now out.old }
 {
-    for i in 0..out.len() {
-        out[i] = word[i] ^ out[i];
+    for (i, x) in word.iter().enumerate() {
+        out[i] ^= *x;
     }
 }
 

@@ -11,8 +11,8 @@ fn octet(bits: &[u8]) -> u8
     ensures { result ≡ Rattle.load.specs.Records.octet (bit bits.now) }
 {
     let mut b = 0u8;
-    for i in 0..8 {
-        b = b * 2 + bits[i];
+    for x in bits {
+        b = b * 2 + *x;
     }
     b
 }
@@ -22,6 +22,7 @@ fn pack(word: &[u8], out: &mut [u8])
     requires { Packable word.now out.old }
     ensures { out.new ≡ packed word.now }
 {
+    // Counted in bytes, which take eight places each.
     for k in 0..out.len() {
         let at = 8 * k;
         out[k] = octet(&word[at..at + 8]);

@@ -2,23 +2,21 @@
 ghost use Rattle.tables.specs.Slots.{Proper};
 ghost use Rattle.load.specs.Steps.{Started};
 
-use refusals::{Answer, Refusal};
-use tables::Slot;
+use profiles::Profile;
+use refusals::Refusal;
 
-// 14, 21 and 22.
-pub fn check_start(slot: Slot, state: u32, asked: usize) -> Answer
+// 14, 21 and 22: the entry, where it passes.
+pub fn check_start(slot: Option<Profile>, state: u32, asked: usize) -> Result<Profile, Refusal>
     requires { Proper slot }
     ensures { Started slot state asked result }
 {
-    if !slot.known {
-        return Answer::Refused(Refusal::Profile);
-    }
-    let n = words::size(slot.profile.m);
+    let entry = slot.ok_or(Refusal::Profile)?;
+    let n = words::size(entry.m);
     if state == 0 {
-        return Answer::Refused(Refusal::LoadStart);
+        return Err(Refusal::LoadStart);
     }
     if n < asked {
-        return Answer::Refused(Refusal::WrongPlaces);
+        return Err(Refusal::WrongPlaces);
     }
-    Answer::Done
+    Ok(entry)
 }

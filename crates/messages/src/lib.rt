@@ -35,6 +35,7 @@ pub fn degrees(d: &mut [u8], n: usize)
     requires { (n ≤ 1024) × (n ≤ length d.old) }
     ensures { Degrees n d.new }
 {
+    // By index: the place is the mask.
     for a in 0..n {
         d[a] = degree(a) as u8;
     }
@@ -45,9 +46,10 @@ pub fn spread(r: usize, d: &[u8], message: &[u8], out: &mut [u8])
     requires { Degrees (length out.old) d.now × (length message.now ≡ Rattle.code.specs.Code.rank r (length out.old)) }
     ensures { out.new ≡ tabulate (length out.old) (Rattle.code.specs.Code.spread r message.now) }
 {
+    // By index: a is the mask, and j the next bit of the message.
     let mut j = 0;
     for a in 0..out.len() {
-        if d[a] as usize <= r {
+        if usize::from(d[a]) <= r {
             out[a] = message[j];
             j += 1;
         } else {
@@ -61,9 +63,10 @@ pub fn gather(r: usize, d: &[u8], t: &[u8], out: &mut [u8])
     requires { Degrees (length t.now) d.now × (length out.old ≡ Rattle.code.specs.Code.rank r (length t.now)) }
     ensures { out.new ≡ Rattle.code.specs.Code.gather r (bit t.now) (length t.now) }
 {
+    // By index: a is the mask, and j the next place of the output.
     let mut j = 0;
     for a in 0..t.len() {
-        if d[a] as usize <= r {
+        if usize::from(d[a]) <= r {
             out[j] = t[a];
             j += 1;
         }
@@ -77,8 +80,8 @@ pub fn is_low(r: usize, t: &[u8]) -> bool
 {
     let most = r as u16;
     let mut low = true;
-    for a in 0..t.len() {
-        low = low & ((degree(a) <= most) | (t[a] == 0));
+    for (a, x) in t.iter().enumerate() {
+        low &= (degree(a) <= most) | (*x == 0);
     }
     low
 }

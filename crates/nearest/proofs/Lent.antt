@@ -16,6 +16,7 @@ use Rattle.area.specs.Area.{at, Bits, SameFront, word_of}
 use Rattle.hadamard.specs.Correlation.{values, correlation}
 use Rattle.hadamard.specs.CorrelationLaws.{correlation_ext}
 use Rattle.hadamard.specs.Summable.{Summable}
+use Rattle.std.specs.Prelude.{Option}
 use Rattle.peaks.specs.declared.Peak.{Peak}
 use Rattle.peaks.specs.Peaks.{IsPeak}
 use Rattle.nearest.specs.Nearest.{Packable, PackedAfter, Searchable, places_of, searched}
@@ -48,11 +49,11 @@ pub record Packing (quarters : Bool) (m k n q : ℕ) (xs : List ℤ) : Type 0 wh
 module _ {b : Bool} {m k n q : ℕ} {xs : List ℤ} (t : Packing b m k n q xs) where
   -- the peak that is found is the word's
   pub found_peak :
-      {ps : List ℤ} {p : Peak} → Correlated k n t.signs ps → IsPeak (places_of b q) (searched b q ps) p
-      → IsPeak (2 ^ m) (correlation m (values (word_of (2 ^ m) xs))) p
-  found_peak {ps} {p} c s =
-      subst (λ (r : ℕ). IsPeak r (correlation m (values (word_of r xs))) p) t.layout.places
-      (peak_ext (subst (λ (r : ℕ). IsPeak r (searched b q ps) p) t.covers s) (t.whole c))
+      {ps : List ℤ} {o : Option Peak} → Correlated k n t.signs ps → IsPeak (places_of b q) (searched b q ps) o
+      → IsPeak (2 ^ m) (correlation m (values (word_of (2 ^ m) xs))) o
+  found_peak {ps} {o} c s =
+      subst (λ (r : ℕ). IsPeak r (correlation m (values (word_of r xs))) o) t.layout.places
+      (peak_ext (subst (λ (r : ℕ). IsPeak r (searched b q ps) o) t.covers s) (t.whole c))
 
   -- the signs stand in ys after the word, and are lent as `[n..n + q]`
   module _ {ys : List ℤ} (w : Written (pos 0) n q t.signs xs ys) where

@@ -38,7 +38,7 @@ fn pack(quarters: bool, q: usize, area: &mut [i32])
 }
 
 // The peak of the q packed correlations in the front of the part.
-fn search(quarters: bool, q: usize, part: &mut [i32]) -> Peak
+fn search(quarters: bool, q: usize, part: &mut [i32]) -> Option<Peak>
     requires { Searchable quarters q part.old }
     ensures { IsPeak (places_of quarters q) (searched quarters q part.old) result }
 {
@@ -50,7 +50,7 @@ fn search(quarters: bool, q: usize, part: &mut [i32]) -> Peak
 }
 
 // The peak of the word in the front half of the area, which it leaves as it was.
-pub fn find_peak(m: usize, area: &mut [i32]) -> Peak
+pub fn find_peak(m: usize, area: &mut [i32]) -> Option<Peak>
     requires { (1 ≤ m) × (m ≤ 10) × (length area.old ≡ 2 * 2 ^ m) × Bits (2 ^ m) area.old }
     ensures found { IsPeak (2 ^ m) (correlation m (values (word_of (2 ^ m) area.old))) result }
     ensures kept { SameFront (2 ^ m) area.old area.new }

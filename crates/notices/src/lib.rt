@@ -2,22 +2,23 @@
 #![tactic(auto)]
 
 ghost use Rattle.std.specs.Prelude.{◌+◌, ◌≤◌, length};
-ghost use Rattle.text.specs.Texts.{Appended};
+ghost use Rattle.text.specs.Texts.{Added};
 ghost use Rattle.lines.specs.Lines.{header_line, last_line};
 ghost use Rattle.pieces.specs.Pieces.{Puts};
 
 use refusals::Refusal;
+use text::Writer;
 
 // The last line, put after what the output holds already.
-fn put_last(records: u64, accepted: u64, out: &mut [u8], at: usize) -> usize
-    requires { at + length (last_line records accepted) ≤ length out.old }
-    ensures { Appended out.old at (last_line records accepted) result out.new }
+fn put_last(w: &mut Writer, records: u64, accepted: u64)
+    requires { w.old.at + length (last_line records accepted) ≤ length w.old.out.now }
+    ensures { Added (last_line records accepted) w.old w.new }
 {
-    let a = text::put_decimal(records, out, at);
-    let b = text::put_text(b" records, ", out, a);
-    let c = text::put_decimal(accepted, out, b);
-    let d = text::put_text(b" accepted", out, c);
-    text::put_byte(10, out, d)
+    w.put_decimal(records);
+    w.put_text(b" records, ");
+    w.put_decimal(accepted);
+    w.put_text(b" accepted");
+    w.put_byte(10);
 }
 
 // The last line, in an output of at least 60 bytes. Answers its length.
@@ -27,18 +28,19 @@ pub fn last_line(records: u64, accepted: u64, out: &mut [u8]) -> usize
     if out.len() < 60 {
         return 0;
     }
-    put_last(records, accepted, out, 0)
+    let mut w = Writer { out, at: 0 };
+    put_last(&mut w, records, accepted);
+    w.at
 }
 
 // The line of a capture with a wrong header, put after what the output holds already.
-fn put_header(out: &mut [u8], at: usize) -> usize
-    requires { at + length header_line ≤ length out.old }
-    ensures { Appended out.old at header_line result out.new }
+fn put_header(w: &mut Writer)
+    requires { w.old.at + length header_line ≤ length w.old.out.now }
+    ensures { Added header_line w.old w.new }
 {
-    let number = refusals::number(Refusal::Header);
-    let a = text::put_text(b"file", out, at);
-    let b = lines::put_refusal(number, out, a);
-    text::put_byte(10, out, b)
+    w.put_text(b"file");
+    lines::put_refusal(w, refusals::number(Refusal::Header));
+    w.put_byte(10);
 }
 
 // All that is printed of a capture with a wrong header, in an output of at least 16 bytes. Answers its length.
@@ -48,5 +50,7 @@ pub fn header_line(out: &mut [u8]) -> usize
     if out.len() < 16 {
         return 0;
     }
-    put_header(out, 0)
+    let mut w = Writer { out, at: 0 };
+    put_header(&mut w);
+    w.at
 }

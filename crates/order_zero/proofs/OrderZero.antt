@@ -16,10 +16,9 @@ use Rattle.hadamard.specs.Correlation.{values, correlation, affine}
 use Rattle.hadamard.specs.AffineWords.{bit-affine}
 use Rattle.hadamard.specs.CorrelationLaws.{correlation-zero, near_distance, far_distance}
 use Rattle.rule.specs.Reading.{accepted, refused, constant, by_sum, order0}
-use Rattle.told.specs.Told.{Read}
+use Rattle.told.specs.Told.{Read, as_accepted, as_refused}
 use Rattle.told.specs.ToldLaws.{constant_read}
 use Rattle.told.specs.declared.Noise.TheVariants.{Tie}
-use Rattle.told.specs.declared.Verdict.TheVariants.{Accepted, Refused}
 
 -- n less x
 data Less (n x : ℕ) : ℤ → Type 0 where
@@ -55,15 +54,15 @@ module _ {m k : ℕ} {w : List ℕ} (hw : IsWord m w) (ek : k ≡ sum_below (2 ^
       go (pos a) e = over {a = a} (omega (arith, zeros_distance, rw e at (near_distance hw 0)))
       go (negsuc a) e = under {a = a} (omega (arith, zeros_distance, rw e at (far_distance hw 0 0 (lit< tt) (λ q. omega (arith, rw e at q)))))
 
-  pub zero_tie : {ys : List ℤ} → 2 * k ≡ 2 ^ m → Read (2 ^ m) (order0 m (values w)) ys (Refused Tie 0 0)
+  pub zero_tie : {ys : List ℤ} → 2 * k ≡ 2 ^ m → Read (2 ^ m) (order0 m (values w)) ys (as_refused Tie 0 0)
   unfolding order0
   zero_tie h = rw (sum_tie m weighed h) (record { said = refl; word = tt })
 
   module _ {n : ℕ} {ys : List ℤ} (en : n ≡ 2 ^ m) where
-    pub zero_zeros : 2 * k < 2 ^ m → ys ≡ replicate n (pos 0) → Read (2 ^ m) (order0 m (values w)) ys (Accepted 0 0)
+    pub zero_zeros : 2 * k < 2 ^ m → ys ≡ replicate n (pos 0) → Read (2 ^ m) (order0 m (values w)) ys (as_accepted 0 0)
     unfolding order0
     zero_zeros h e = rw (sum_zeros m weighed h) (constant_read m (lit< tt) en e)
 
-    pub zero_ones : 2 ^ m < 2 * k → ys ≡ replicate n (pos 1) → Read (2 ^ m) (order0 m (values w)) ys (Accepted 0 0)
+    pub zero_ones : 2 ^ m < 2 * k → ys ≡ replicate n (pos 1) → Read (2 ^ m) (order0 m (values w)) ys (as_accepted 0 0)
     unfolding order0
     zero_ones h e = rw (sum_ones m weighed h) (constant_read m (lit< tt) en e)

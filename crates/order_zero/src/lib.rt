@@ -1,7 +1,7 @@
 // The reading at order 0: by the number of ones.
 #![tactic(auto)]
 
-ghost use Rattle.std.specs.Prelude.{◌≡◌, ℕ, ◌≤◌, ◌^◌};
+ghost use Rattle.std.specs.Prelude.{◌≡◌, ◌≤◌, ◌^◌};
 ghost use Rattle.words.specs.Sum.{sum_below};
 ghost use Rattle.words.specs.Word.{bit};
 ghost use Rattle.area.specs.Area.{Bits, word_of};
@@ -9,7 +9,7 @@ ghost use Rattle.hadamard.specs.Correlation.{values};
 ghost use Rattle.rule.specs.Reading.{order0};
 ghost use Rattle.told.specs.Told.{Read, Kept};
 
-use told::{Noise, Told, Verdict, changed};
+use told::{Accepted, Noise, Told, changed, refused};
 
 // The number of ones among the first n numbers, which are bits.
 fn count_ones(n: usize, area: &[i32]) -> usize
@@ -17,8 +17,8 @@ fn count_ones(n: usize, area: &[i32]) -> usize
     ensures { (result ≡ sum_below n (bit (word_of n area.now))) × (result ≤ n) }
 {
     let mut k = 0;
-    for p in 0..n {
-        if area[p] != 0 {
+    for x in &area[..n] {
+        if *x != 0 {
             k += 1;
         }
     }
@@ -33,13 +33,17 @@ pub fn zero_order(m: usize, area: &mut [i32]) -> Told
 {
     let n = words::size(m);
     let k = count_ones(n, area);
+    let accepted = Accepted {
+        rounds: 0,
+        leaves: 0,
+    };
     if 2 * k == n {
-        return changed(Verdict::Refused(Noise::Tie, 0, 0));
+        return refused(Noise::Tie, 0, 0);
     }
     if 2 * k < n {
-        area::fill(&mut area[0..n], 0);
-        return changed(Verdict::Accepted(0, 0));
+        area::fill(&mut area[..n], 0);
+        return changed(Ok(accepted));
     }
-    area::fill(&mut area[0..n], 1);
-    changed(Verdict::Accepted(0, 0))
+    area::fill(&mut area[..n], 1);
+    changed(Ok(accepted))
 }

@@ -1,8 +1,6 @@
 -- What the exported calls under tables return: document 02, request 4. Assumes nothing.
-use Rattle.std.specs.Prelude.{ℕ, ◌+◌, ◌*◌, ◌%◌, ◌≡◌, cond, List, eqb, ℤ, length, replicate}
-use Rattle.refusals.specs.Refusals.{answer_number, answer_place, place_named}
-use Rattle.refusals.specs.declared.Answer.{Answer}
-use Rattle.refusals.specs.declared.Answer.TheVariants.{Done, Refused}
+use Rattle.std.specs.Prelude.{ℕ, ◌+◌, ◌*◌, ◌%◌, ◌≡◌, cond, List, eqb, ℤ, length, replicate, Ok, Err}
+use Rattle.refusals.specs.Refusals.{answer_number, answer_place, place_named, Answer}
 use Rattle.profiles.specs.declared.Profile.{Profile}
 use Rattle.tables.specs.declared.Table.{Table}
 use Rattle.tables.specs.Tables.{entry_of, ours}
@@ -20,12 +18,12 @@ made count p = record { count = count; entries = replicate 32 p }
 
 -- what loading a file gives; where it has length 0, the constant table
 abbrev pub table_of : List ℕ → Loaded
-table_of file = cond (eqb (length file) 0) (record { answer = Done; table = ours }) (loaded file ours)
+table_of file = cond (eqb (length file) 0) (record { answer = (Ok tt); table = ours }) (loaded file ours)
 
 -- x where a load is done, y where it is refused
 abbrev pub when_loaded : {A : Type 0} → Answer → A → A → A
-when_loaded Done x y = x
-when_loaded (Refused why) x y = y
+when_loaded (Ok tt) x y = x
+when_loaded (Err why) x y = y
 
 -- a decoding under entry `number` of the table that a load gave; where that is refused, 19, or 20 with the entry in the place, and output
 -- and area as they were

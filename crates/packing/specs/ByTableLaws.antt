@@ -1,17 +1,13 @@
 -- What is returned under a table, from the core's contracts. Assumes nothing.
-use Rattle.std.specs.Prelude.{ℕ, ◌≡◌, refl, List, ℤ, length}
+use Rattle.std.specs.Prelude.{ℕ, ◌≡◌, refl, List, ℤ, length, Ok, Err}
 use Rattle.std.proofs.Common.{sym, ap, ◌∙◌}
-use Rattle.refusals.specs.Refusals.{answer_number, answer_place}
+use Rattle.refusals.specs.Refusals.{answer_number, answer_place, Answer, Decoded}
 use Rattle.refusals.proofs.CheckLaws.{done_of}
-use Rattle.refusals.specs.declared.Answer.{Answer}
-use Rattle.refusals.specs.declared.Answer.TheVariants.{Done, Refused}
-use Rattle.refusals.specs.declared.Decoded.{Decoded}
 use Rattle.tables.specs.Tables.{entry_of}
 use Rattle.table_files.specs.declared.Loaded.{Loaded}
 use Rattle.table_decoder.specs.Table.{decode_table_call}
 use Rattle.rule.specs.Calls.{Decodes, decoded_place, values_of}
-use Rattle.capture.specs.Capture.{Finds, answer_of}
-use Rattle.capture.specs.declared.Found.{Found}
+use Rattle.capture.specs.Capture.{Found, Finds, answer_of}
 use Rattle.packing.specs.Packing.{pack, pack_values}
 use Rattle.packing.specs.PackingLaws.{decoding_returns}
 use Rattle.packing.specs.ByTable.{ReturnsLoaded, ReturnsRecord, pack_found, when_loaded}
@@ -20,8 +16,8 @@ done : {A : Type 0} (a : Answer) (x y : A) → answer_number a ≡ 0 → x ≡ w
 done a x y e = rw (done_of a e)
 
 refused : {A : Type 0} (a : Answer) (x y : A) → (answer_number a ≡ 0 → ⊥) → y ≡ when_loaded a x y
-refused Done x y h = absurd (h refl)
-refused (Refused why) x y h = refl
+refused (Ok tt) x y h = absurd (h refl)
+refused (Err why) x y h = refl
 
 -- s is what the code loaded, and n its refusal's number or 0
 module _ {s l : Loaded} (q : s ≡ l) {n : ℕ} (k : n ≡ answer_number s.answer) where

@@ -2,7 +2,7 @@
 use Rattle.std.specs.Prelude.{ℕ, ◌≡◌, List}
 use Rattle.std.proofs.Common.{◌∙◌}
 use Rattle.refusals.specs.Refusals.{answer_number}
-use Rattle.tables.specs.declared.Slot.{Slot}
+use Rattle.tables.specs.Tables.{Slot}
 use Rattle.load.specs.Load.{Draws}
 use Rattle.load.specs.declared.Next.{Next}
 use Rattle.packing.specs.Loads.{ReturnsBlock, pack_next}

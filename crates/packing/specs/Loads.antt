@@ -1,7 +1,7 @@
 -- What the exported call for a block of a load returns: document 02, request 9. Assumes nothing.
 use Rattle.std.specs.Prelude.{ℕ, ◌+◌, ◌*◌, ◌≡◌, Bool, List}
 use Rattle.words.specs.Word.{indicator}
-use Rattle.tables.specs.declared.Slot.{Slot}
+use Rattle.tables.specs.Tables.{Slot}
 use Rattle.load.specs.Load.{block_of, block_refusal, short_of, state_of}
 
 -- refusal or 0 in the lowest 8 bits, 1 in the next 8 where the block was left short, 16 zero bits, the state after in 32

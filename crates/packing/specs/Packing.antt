@@ -1,10 +1,9 @@
 -- Answers packed in 64 bits. Assumes nothing.
-use Rattle.std.specs.Prelude.{ℕ, ◌+◌, ◌*◌, ◌%◌, ◌≡◌, Bool, cond, List, eqb, ℤ, length}
+use Rattle.std.specs.Prelude.{ℕ, ◌+◌, ◌*◌, ◌%◌, ◌≡◌, Bool, cond, List, eqb, ℤ, length, Ok, Err}
 use Rattle.words.specs.Word.{indicator}
 use Rattle.refusals.specs.Refusals.{Check, first_refusal, place_named}
 use Rattle.gap.specs.Calls.{GapValues, gap_values, gap_call, gap_area}
-use Rattle.codec.specs.declared.Tested.{Tested}
-use Rattle.codec.specs.declared.Tested.TheVariants.{Codeword, NotCodeword, Refused}
+use Rattle.codec.specs.Calls.{Tested}
 use Rattle.codec.specs.Calls as codec
 use Rattle.rule.specs.Reading.{Outcome}
 use Rattle.rule.specs.Decoding.{Values, values, refusal_of, answer_of, output_of, area_of}
@@ -16,9 +15,8 @@ pack number rounds leaves mended place =
 
 -- 1 where the codeword test says yes
 abbrev pub yes_of : Tested → ℕ
-yes_of Codeword = 1
-yes_of NotCodeword = 0
-yes_of (Refused why) = 0
+yes_of (Ok b) = indicator b
+yes_of (Err why) = 0
 
 -- what a decoding returns, with the place that it names
 abbrev pub pack_values : Values → ℕ → ℕ

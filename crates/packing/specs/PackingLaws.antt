@@ -1,20 +1,15 @@
 -- What is returned, from the core's contracts. Assumes nothing.
-use Rattle.std.specs.Prelude.{ℕ, ◌≡◌, refl, Bool, true, false, cond, List, eqb, ℤ}
+use Rattle.std.specs.Prelude.{ℕ, ◌≡◌, refl, Bool, true, false, cond, List, eqb, ℤ, Ok, Err}
 use Rattle.std.proofs.Common.{sym, ap, ap₂, ◌∙◌, eqb-true}
 use Rattle.std.proofs.lemmas.Bool.{eqb-false}
 use Rattle.words.specs.Word.{indicator}
-use Rattle.refusals.specs.declared.Answer.{Answer}
-use Rattle.refusals.specs.declared.Decoded.{Decoded}
-use Rattle.refusals.specs.Refusals.{Check, answer_number, answer_place, first_refusal, place_named}
+use Rattle.refusals.specs.Refusals.{Answer, Decoded, Check, answer_number, answer_place, first_refusal, place_named}
 use Rattle.code.specs.Code.{codeword_test}
 use Rattle.codec_checks.specs.Checks.{test_checks}
-use Rattle.codec.specs.declared.Tested.{Tested}
-use Rattle.codec.specs.declared.Tested.TheVariants.{Codeword, NotCodeword, Refused}
-use Rattle.codec.specs.Calls.{Calls, Tests, tested_number, tested_place, verdict}
+use Rattle.codec.specs.Calls.{Tested, Calls, Tests, tested_number, tested_place}
 use Rattle.rule.specs.Reading.{Outcome}
 use Rattle.rule.specs.Calls.{Answers, decoded_place, values_of}
-use Rattle.gap.specs.declared.Measured.{Measured}
-use Rattle.gap.specs.Calls.{Measures, measured_values}
+use Rattle.gap.specs.Calls.{Measured, Measures, measured_values}
 use Rattle.packing.specs.Packing.{pack, pack_gap, pack_test, pack_values, yes_of, Returns, ReturnsAnswer, ReturnsGap}
 
 pub call_returns : {cs : List Check} {x s before after : List ℕ} {a : Answer} {v : ℕ}
@@ -29,15 +24,10 @@ pub gap_returns : {m : ℕ} {word : List ℕ} {area area' : List ℤ} {a : Measu
     → Measures m word area area' a → v ≡ pack_gap (measured_values a) → ReturnsGap m word area area' v
 gap_returns c e = record { packed = e ∙ ap pack_gap c.answer; lent = c.lent }
 
-verdict_yes : (b : Bool) → yes_of (verdict b) ≡ indicator b
-verdict_yes true = refl
-verdict_yes false = refl
-
 -- where the test is refused it says nothing
 refused_no : (a : Tested) → (tested_number a ≡ 0 → ⊥) → yes_of a ≡ 0
-refused_no Codeword h = absurd (h refl)
-refused_no NotCodeword h = refl
-refused_no (Refused why) h = refl
+refused_no (Ok b) h = absurd (h refl)
+refused_no (Err why) h = refl
 
 module _ {m r : ℕ} {word : List ℕ} {a : Tested} (t : Tests m r word a) where
   abbrev n : ℕ
@@ -47,7 +37,7 @@ module _ {m r : ℕ} {word : List ℕ} {a : Tested} (t : Tests m r word a) where
   yes_is = go (eqb n 0) refl
     where
       go : (b : Bool) → eqb n 0 ≡ b → yes_of a ≡ cond b (indicator (codeword_test m r word)) 0
-      go true e = ap yes_of (t.answer (eqb-true n 0 e)) ∙ verdict_yes (codeword_test m r word)
+      go true e = ap yes_of (t.answer (eqb-true n 0 e))
       go false e = refused_no a (λ z. eqb-false n 0 e (sym t.number ∙ z))
 
   pub test_returns : {v : ℕ} → v ≡ pack (tested_number a) (yes_of a) 0 0 (tested_place a) → v ≡ pack_test (test_checks m r word) word (codeword_test m r word)

@@ -2,7 +2,7 @@
 use Rattle.std.specs.Prelude.{ℕ, ◌≡◌, List, ℤ}
 use Rattle.std.proofs.Common.{◌∙◌}
 use Rattle.refusals.specs.Refusals.{answer_number}
-use Rattle.tables.specs.declared.Slot.{Slot}
+use Rattle.tables.specs.Tables.{Slot}
 use Rattle.street_runs.specs.Run.{Runs}
 use Rattle.streets.specs.declared.Plan.{Plan}
 use Rattle.street_runs.specs.declared.Ran.{Ran}

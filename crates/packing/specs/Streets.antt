@@ -1,7 +1,7 @@
 -- What the exported call for a street returns: document 02, request 10. Assumes nothing.
 use Rattle.std.specs.Prelude.{ℕ, ◌+◌, ◌*◌, ◌%◌, ◌≡◌, Bool, List, ℤ, length}
 use Rattle.words.specs.Word.{indicator}
-use Rattle.tables.specs.declared.Slot.{Slot}
+use Rattle.tables.specs.Tables.{Slot}
 use Rattle.streets.specs.Street.{Step, sent_in}
 use Rattle.street_runs.specs.Run.{area_after, block_after, logged, is_none_left, run_refusal, steps_made}
 use Rattle.streets.specs.declared.Plan.{Plan}

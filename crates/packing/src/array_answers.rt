@@ -3,7 +3,7 @@ ghost use Rattle.std.specs.Prelude.{◌≡◌};
 ghost use Rattle.array_decoder.specs.Calls.{array_leaves, array_number, array_place};
 ghost use Rattle.packing.specs.Arrays.{pack_array};
 
-use array_decoder::ArrayDecoded;
+use array_decoder::ArrayRefused;
 
 fn pack(number: u8, leaves: usize, place: usize) -> u64
     ensures { result ≡ pack_array number leaves place }
@@ -12,15 +12,15 @@ fn pack(number: u8, leaves: usize, place: usize) -> u64
     low + (place % 65536) as u64 * 281474976710656
 }
 
-pub fn pack_array(answer: ArrayDecoded) -> u64
+pub fn pack_array(answer: Result<usize, ArrayRefused>) -> u64
     ensures { result ≡ pack_array (array_number answer) (array_leaves answer) (array_place answer) }
 {
     match answer {
-        ArrayDecoded::Accepted(leaves) => pack(0, leaves, 0),
-        ArrayDecoded::Refused(why, leaves) => pack(
-            refusals::number(why),
-            leaves,
-            refusals::place(why),
+        Ok(leaves) => pack(0, leaves, 0),
+        Err(refused) => pack(
+            refusals::number(refused.why),
+            refused.leaves,
+            refusals::place(refused.why),
         ),
     }
 }

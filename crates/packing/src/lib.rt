@@ -9,9 +9,7 @@ ghost use Rattle.gap.specs.Calls.{measured_values};
 ghost use Rattle.packing.specs.Packing;
 ghost use Rattle.packing.specs.Packing.{yes_of, pack_gap, pack_values};
 
-use codec::Tested;
-use gap::Measured;
-use refusals::{Answer, Decoded};
+use refusals::{Accepted, Refusal, Refused};
 
 pub mod array_answers;
 pub mod by_table;
@@ -27,45 +25,44 @@ fn pack(number: u8, rounds: usize, leaves: usize, mended: usize, place: usize) -
     low + middle + high
 }
 
-pub fn pack_answer(answer: Answer) -> u64
+pub fn pack_answer(answer: Result<(), Refusal>) -> u64
     ensures { result ≡ Rattle.packing.specs.Packing.pack (answer_number answer) 0 0 0 (answer_place answer) }
 {
     match answer {
-        Answer::Done => 0,
-        Answer::Refused(why) => pack(refusals::number(why), 0, 0, 0, refusals::place(why)),
+        Ok(()) => 0,
+        Err(why) => pack(refusals::number(why), 0, 0, 0, refusals::place(why)),
     }
 }
 
-pub fn pack_tested(answer: Tested) -> u64
+pub fn pack_tested(answer: Result<bool, Refusal>) -> u64
     ensures { result ≡ Rattle.packing.specs.Packing.pack (tested_number answer) (yes_of answer) 0 0 (tested_place answer) }
 {
     match answer {
-        Tested::Codeword => pack(0, 1, 0, 0, 0),
-        Tested::NotCodeword => 0,
-        Tested::Refused(why) => pack(refusals::number(why), 0, 0, 0, refusals::place(why)),
+        Ok(yes) => pack(0, usize::from(yes), 0, 0, 0),
+        Err(why) => pack(refusals::number(why), 0, 0, 0, refusals::place(why)),
     }
 }
 
-pub fn pack_decoded(answer: Decoded) -> u64
+pub fn pack_decoded(answer: Result<Accepted, Refused>) -> u64
     ensures { result ≡ pack_values (values_of answer) (decoded_place answer) }
 {
     match answer {
-        Decoded::Accepted(rounds, leaves, mended) => pack(0, rounds, leaves, mended, 0),
-        Decoded::Refused(why, rounds, leaves) => pack(
-            refusals::number(why),
-            rounds,
-            leaves,
+        Ok(read) => pack(0, read.rounds, read.leaves, read.mended, 0),
+        Err(refused) => pack(
+            refusals::number(refused.why),
+            refused.rounds,
+            refused.leaves,
             0,
-            refusals::place(why),
+            refusals::place(refused.why),
         ),
     }
 }
 
-pub fn pack_measured(answer: Measured) -> u64
+pub fn pack_measured(answer: Result<usize, Refusal>) -> u64
     ensures { result ≡ pack_gap (measured_values answer) }
 {
     match answer {
-        Measured::Gap(gap) => pack(0, 0, gap, 0, 0),
-        Measured::Refused(why) => pack(refusals::number(why), 0, 0, 0, refusals::place(why)),
+        Ok(gap) => pack(0, 0, gap, 0, 0),
+        Err(why) => pack(refusals::number(why), 0, 0, 0, refusals::place(why)),
     }
 }

@@ -4,7 +4,7 @@ ghost use Rattle.refusals.specs.Refusals.{answer_number};
 ghost use Rattle.packing.specs.Loads.{pack_next};
 
 use load::Next;
-use refusals::Answer;
+use refusals::Refusal;
 
 // Lowest first: refusal or 0 in 8, 1 where the block was left short in 8, nothing in 16, the state after in 32.
 fn pack(number: u8, short: bool, state: u32) -> u64
@@ -18,7 +18,7 @@ pub fn pack_next(next: Next) -> u64
 {
     let answer = next.answer;
     match answer {
-        Answer::Done => pack(0, next.short, next.state),
-        Answer::Refused(why) => pack(refusals::number(why), next.short, next.state),
+        Ok(()) => pack(0, next.short, next.state),
+        Err(why) => pack(refusals::number(why), next.short, next.state),
     }
 }

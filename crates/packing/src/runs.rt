@@ -3,7 +3,7 @@ ghost use Rattle.std.specs.Prelude.{◌≡◌};
 ghost use Rattle.refusals.specs.Refusals.{answer_number};
 ghost use Rattle.packing.specs.Streets.{pack_ran};
 
-use refusals::Answer;
+use refusals::Refusal;
 use street_runs::Ran;
 
 // Lowest first: refusal or 0 in 8, the blocks sent in 32, 1 where a step answered that none is left in 8.
@@ -18,7 +18,7 @@ pub fn pack_ran(ran: Ran) -> u64
 {
     let answer = ran.answer;
     match answer {
-        Answer::Done => pack(0, ran.sent, ran.none_left),
-        Answer::Refused(why) => pack(refusals::number(why), ran.sent, ran.none_left),
+        Ok(()) => pack(0, ran.sent, ran.none_left),
+        Err(why) => pack(refusals::number(why), ran.sent, ran.none_left),
     }
 }

@@ -1,5 +1,5 @@
 -- What the search finds is the peak. Assumes nothing.
-use Rattle.std.specs.Prelude.{ℕ, ◌+◌, ◌%◌, ◌≤◌, ◌<◌, max, ◌≡◌, true, false, List, ◌⊎◌, ℤ, pos, nat_abs, length}
+use Rattle.std.specs.Prelude.{ℕ, ◌+◌, ◌%◌, ◌≤◌, ◌<◌, max, ◌≡◌, ◌≢◌, cond, List, ◌⊎◌, ℤ, pos, nat_abs, length, Option, Some, None}
 use Rattle.std.proofs.Common.{sym, ap, ap₂, ◌∙◌, inl, inr, arith, eq-eqb, eqb-true, ne_eqb}
 use Rattle.std.proofs.lemmas.Bool.{false≢true}
 use Rattle.std.proofs.Math.Decide.{ℕ_discrete}
@@ -9,31 +9,53 @@ use Rattle.area.specs.Area.{at, size_at}
 use Rattle.hadamard.specs.Correlation.{constant_of}
 use Rattle.hadamard.specs.Peak.{Alone, Shared, alone_count, alone_first, alone_greatest, greatest_bound, one_alone, shared_count}
 use Rattle.peaks.specs.declared.Peak.{Peak}
-use Rattle.peaks.specs.Peaks.{joined, keys_below, IsPeak, PeakAt, Sizes}
+use Rattle.peaks.specs.Peaks.{alike, joined, keys_below, IsPeak, PeakAt, Sizes}
 use Rattle.peaks.specs.Keys.{keys_ext, keys_many, keys_one}
 use Rattle.peaks.specs.Pairs.{Layout, greater_sign, pair_alone, pair_even, joined_layout, pairs_share, sizes}
 
 -- ---- the peak of some values
 
-module _ (n : ℕ) (c : ℕ → ℤ) {p : Peak} where
-  pub one_peak : {u : ℕ} → Alone n (λ v. nat_abs (c v)) u → p.alone ≡ true → p.mask ≡ u → p.constant ≡ pos (constant_of (c u)) → IsPeak n c p
-  one_peak a ea em ec = record {
-    alone = ea ∙ sym (eq-eqb _ 1 (alone_count a));
-    mask = λ e. em ∙ sym (alone_first a);
-    constant = λ e. ec ∙ ap (λ (v : ℕ). pos (constant_of (c v))) (sym em);
+module _ (n : ℕ) (c : ℕ → ℤ) where
+  pub one_peak : {p : Peak} {u : ℕ} → Alone n (λ v. nat_abs (c v)) u → p.mask ≡ u → p.constant ≡ pos (constant_of (c u)) → IsPeak n c (Some p)
+  one_peak a em ec = record {
+    alone = sym (eq-eqb _ 1 (alone_count a));
+    mask = em ∙ sym (alone_first a);
+    constant = ec ∙ ap (λ (v : ℕ). pos (constant_of (c v))) (sym em);
   }
 
-  pub no_peak : Shared n (λ v. nat_abs (c v)) → p.alone ≡ false → IsPeak n c p
-  no_peak s ea = record {
-    alone = ea ∙ sym (ne_eqb _ 1 (shared_count s));
-    mask = λ e. absurd (false≢true (sym ea ∙ e));
-    constant = λ e. absurd (false≢true (sym ea ∙ e));
-  }
+  pub no_peak : Shared n (λ v. nat_abs (c v)) → IsPeak n c None
+  no_peak s = record { alone = sym (ne_eqb _ 1 (shared_count s)); mask = tt; constant = tt }
+
+  -- at a pair of the greatest size, which has it alone unless one of its numbers is 0
+  module _ {a b : ℕ} {x y : ℤ} (even : (nat_abs x ≡ 0) ⊎ (nat_abs y ≡ 0) → Shared n (λ v. nat_abs (c v)))
+      (only : nat_abs x ≢ 0 → nat_abs y ≢ 0 → Alone n (λ v. nat_abs (c v)) (cond (alike x y) a b))
+      (same_sign : constant_of (c (cond (alike x y) a b)) ≡ constant_of x) where
+    no_pair : PeakAt a b x y None → IsPeak n c None
+    no_pair k = elim (ℕ_discrete (nat_abs x) 0) [
+      | yes e ↦ no_peak (even (inl e))
+      | no nx ↦ elim (ℕ_discrete (nat_abs y) 0) [
+        | yes e ↦ no_peak (even (inr e))
+        | no ny ↦ absurd (false≢true (k.alone nx ny))
+      ]
+    ]
+
+    one_pair : (p : Peak) → PeakAt a b x y (Some p) → IsPeak n c (Some p)
+    one_pair p k =
+        one_peak
+        (only (λ e. false≢true (sym (k.first e))) (λ e. false≢true (sym (k.second e))))
+        k.mask (k.constant ∙ ap pos (sym same_sign))
+
+    pair_either : (o : Option Peak) → PeakAt a b x y o → IsPeak n c o
+    pair_either None k = no_pair k
+    pair_either (Some p) k = one_pair p k
+
+    pub pair_peak : {o : Option Peak} → PeakAt a b x y o → IsPeak n c o
+    pair_peak {o} k = pair_either o k
 
 -- the peak's mask has the greatest absolute value
-module _ {n : ℕ} {c : ℕ → ℤ} {p : Peak} (k : IsPeak n c p) (e : p.alone ≡ true) where
+module _ {n : ℕ} {c : ℕ → ℤ} {p : Peak} (k : IsPeak n c (Some p)) where
   mask_alone : Alone n (λ u. nat_abs (c u)) p.mask
-  mask_alone = rw (k.mask e) (one_alone n (λ u. nat_abs (c u)) (eqb-true _ 1 (sym k.alone ∙ e)))
+  mask_alone = rw k.mask (one_alone n (λ u. nat_abs (c u)) (eqb-true _ 1 (sym k.alone)))
 
   pub peak_below : p.mask < n
   peak_below = mask_alone.below
@@ -46,9 +68,8 @@ pub record Searched (h : ℕ) (x y : ℕ → ℤ) (key : ℕ) : Type 0 where
   pub keys : key ≡ keys_below h (sizes x y) (greatest_below h (sizes x y))
 
 module _ {h : ℕ} {x y : ℕ → ℤ} {key : ℕ} (t : Searched h x y key) where
-  pub searched_many : {p : Peak} → 131071 < key → p.alone ≡ false → IsPeak (h + h) (joined h x y) p
-  searched_many l ea =
-      no_peak (h + h) (joined h x y) (pairs_share (joined_layout h x y) (keys_many t.some t.few t.keys l)) ea
+  pub searched_many : 131071 < key → IsPeak (h + h) (joined h x y) None
+  searched_many l = no_peak (h + h) (joined h x y) (pairs_share (joined_layout h x y) (keys_many t.some t.few t.keys l))
 
   module _ (l : key ≤ 131071) where
     pub searched_one : Alone h (sizes x y) (key % 65536)
@@ -57,8 +78,8 @@ module _ {h : ℕ} {x y : ℕ → ℤ} {key : ℕ} (t : Searched h x y key) wher
     pub searched_place : key % 65536 < h
     searched_place = searched_one.below
 
-    module _ {p : Peak}
-        (k : PeakAt (key % 65536) (h + key % 65536) (x (key % 65536)) (y (key % 65536)) p) where
+    module _ {o : Option Peak}
+        (k : PeakAt (key % 65536) (h + key % 65536) (x (key % 65536)) (y (key % 65536)) o) where
       abbrev j : ℕ
       j = key % 65536
 
@@ -68,16 +89,8 @@ module _ {h : ℕ} {x y : ℕ → ℤ} {key : ℕ} (t : Searched h x y key) wher
       even : (nat_abs (x j) ≡ 0) ⊎ (nat_abs (y j) ≡ 0) → Shared (h + h) (λ v. nat_abs (joined h x y v))
       even = pair_even places j searched_place (λ i m. omega (arith, greatest_bound (sizes x y) h i m, alone_greatest searched_one))
 
-      pub searched_peak : IsPeak (h + h) (joined h x y) p
-      searched_peak = elim (ℕ_discrete (nat_abs (x j)) 0) [
-        | yes e ↦ no_peak (h + h) (joined h x y) (even (inl e)) (k.first e)
-        | no nx ↦ elim (ℕ_discrete (nat_abs (y j)) 0) [
-          | yes e ↦ no_peak (h + h) (joined h x y) (even (inr e)) (k.second e)
-          | no ny ↦
-              one_peak (h + h) (joined h x y) (pair_alone places j searched_one nx ny) (k.alone nx ny) k.mask
-              (k.constant ∙ ap pos (sym (greater_sign places j searched_place)))
-        ]
-      ]
+      pub searched_peak : IsPeak (h + h) (joined h x y) o
+      searched_peak = pair_peak (h + h) (joined h x y) even (pair_alone places j searched_one) (greater_sign places j searched_place) k
 
 -- ---- the sizes in a list
 

@@ -1,5 +1,6 @@
 -- Numbers packed in one, the sizes of pairs, and the peak of some values. Assumes nothing.
-use Rattle.std.specs.Prelude.{ℕ, ◌+◌, ◌-◌, ◌^◌, ◌≤◌, ◌<◌, ◌≡◌, Bool, true, false, cond, List, ◌≢◌, eqb, ltb, ℤ, pos, nat_abs, ◌+ℤ◌, ◌-ℤ◌, ◌*ℤ◌, length}
+use Rattle.std.specs.Prelude.{ℕ, ◌+◌, ◌-◌, ◌^◌, ◌≤◌, ◌<◌, ◌≡◌, Bool, true, false, cond, List, ◌≢◌, eqb, ltb, ℤ, pos, nat_abs, ◌+ℤ◌, ◌-ℤ◌, ◌*ℤ◌, length, Option, IfSome}
+use Rattle.std.specs.Option.{is_some}
 use Rattle.words.specs.Sum.{greatest_below, sum_below}
 use Rattle.area.specs.Area.{at}
 use Rattle.hadamard.specs.Correlation.{constant_of, count_below, first_below}
@@ -55,20 +56,20 @@ pairs_joined h xs = joined h (at xs) (λ i. at xs (h + i))
 
 -- ---- peaks
 
--- p is the place below n where the absolute value of c is greatest, where there is one alone
-pub record IsPeak (n : ℕ) (c : ℕ → ℤ) (p : Peak) : Type 0 where
-  pub alone : p.alone ≡ eqb (count_below n (λ u. nat_abs (c u)) (greatest_below n (λ u. nat_abs (c u)))) 1
-  pub mask : p.alone ≡ true → p.mask ≡ first_below n (λ u. nat_abs (c u)) (greatest_below n (λ u. nat_abs (c u)))
-  pub constant : p.alone ≡ true → p.constant ≡ pos (constant_of (c p.mask))
+-- o is the place below n where the absolute value of c is greatest, where there is one alone
+pub record IsPeak (n : ℕ) (c : ℕ → ℤ) (o : Option Peak) : Type 0 where
+  pub alone : is_some o ≡ eqb (count_below n (λ u. nat_abs (c u)) (greatest_below n (λ u. nat_abs (c u)))) 1
+  pub mask : IfSome o (λ p. p.mask ≡ first_below n (λ u. nat_abs (c u)) (greatest_below n (λ u. nat_abs (c u))))
+  pub constant : IfSome o (λ p. p.constant ≡ pos (constant_of (c p.mask)))
 
 -- both below 0, or neither
 abbrev pub alike : ℤ → ℤ → Bool
 alike x y = eqb (constant_of x) (constant_of y)
 
 -- the peak that the pair x, y gives, by the masks of its sum and its difference
-pub record PeakAt (sum difference : ℕ) (x y : ℤ) (p : Peak) : Type 0 where
-  pub alone : nat_abs x ≢ 0 → nat_abs y ≢ 0 → p.alone ≡ true
-  pub first : nat_abs x ≡ 0 → p.alone ≡ false
-  pub second : nat_abs y ≡ 0 → p.alone ≡ false
-  pub mask : p.mask ≡ cond (alike x y) sum difference
-  pub constant : p.constant ≡ pos (constant_of x)
+pub record PeakAt (sum difference : ℕ) (x y : ℤ) (o : Option Peak) : Type 0 where
+  pub alone : nat_abs x ≢ 0 → nat_abs y ≢ 0 → is_some o ≡ true
+  pub first : nat_abs x ≡ 0 → is_some o ≡ false
+  pub second : nat_abs y ≡ 0 → is_some o ≡ false
+  pub mask : IfSome o (λ p. p.mask ≡ cond (alike x y) sum difference)
+  pub constant : IfSome o (λ p. p.constant ≡ pos (constant_of x))

@@ -1,5 +1,5 @@
 -- Values that agree below n have the same peak. Assumes nothing.
-use Rattle.std.specs.Prelude.{ℕ, ◌<◌, max, ◌≡◌, eqb, ℤ, pos, nat_abs}
+use Rattle.std.specs.Prelude.{ℕ, ◌<◌, max, ◌≡◌, eqb, ℤ, pos, nat_abs, Option, Some, None}
 use Rattle.std.proofs.Common.{ap, ◌∙◌}
 use Rattle.words.specs.Sum.{greatest_below}
 use Rattle.words.specs.SumLaws.{total_ext}
@@ -9,7 +9,7 @@ use Rattle.peaks.specs.declared.Peak.{Peak}
 use Rattle.peaks.specs.Peaks.{IsPeak}
 use Rattle.peaks.specs.Found.{peak_below}
 
-module _ {n : ℕ} {c d : ℕ → ℤ} {p : Peak} (k : IsPeak n c p) (h : (u : ℕ) → u < n → c u ≡ d u) where
+module _ {n : ℕ} {c d : ℕ → ℤ} (h : (u : ℕ) → u < n → c u ≡ d u) where
   abbrev f : ℕ → ℕ
   f u = nat_abs (c u)
 
@@ -28,9 +28,13 @@ module _ {n : ℕ} {c d : ℕ → ℤ} {p : Peak} (k : IsPeak n c p) (h : (u : �
   first_same : first_below n f (greatest_below n f) ≡ first_below n g (greatest_below n g)
   first_same = ap (first_below n f) most ∙ first_ext n f g (greatest_below n g) same
 
-  pub peak_ext : IsPeak n d p
-  peak_ext = record {
+  pub peak_same : (o : Option Peak) → IsPeak n c o → IsPeak n d o
+  peak_same None k = record { alone = k.alone ∙ ap (λ (x : ℕ). eqb x 1) count_same; mask = tt; constant = tt }
+  peak_same (Some p) k = record {
     alone = k.alone ∙ ap (λ (x : ℕ). eqb x 1) count_same;
-    mask = λ e. k.mask e ∙ first_same;
-    constant = λ e. k.constant e ∙ ap (λ (z : ℤ). pos (constant_of z)) (h p.mask (peak_below k e));
+    mask = k.mask ∙ first_same;
+    constant = k.constant ∙ ap (λ (z : ℤ). pos (constant_of z)) (h p.mask (peak_below k));
   }
+
+pub peak_ext : {n : ℕ} {c d : ℕ → ℤ} {o : Option Peak} → IsPeak n c o → ((u : ℕ) → u < n → c u ≡ d u) → IsPeak n d o
+peak_ext {o = o} k h = peak_same h o k

@@ -7,11 +7,10 @@ ghost use Rattle.words.specs.Sum.{greatest_below};
 ghost use Rattle.area.specs.Area.{size_at};
 ghost use Rattle.peaks.specs.Peaks.{keys_below, lesser_size, pair_size, Sizes, PeakAt};
 
-// The mask of the greatest absolute correlation, where it is the only one, and its correlation's sign as a codeword's constant.
-#[derive(Clone, Copy)]
+// The mask of the greatest absolute correlation, and its correlation's sign as a codeword's constant.
+#[derive(Clone, Copy, Debug, PartialEq, Eq)]
 pub struct Peak {
     pub mask: usize,
-    pub alone: bool,
     pub constant: i32,
 }
 
@@ -45,13 +44,10 @@ pub fn greatest(sizes: &[i32]) -> i32
     ensures { result ≡ pos (greatest_below (length sizes.now) (size_at sizes.now)) }
 {
     let mut g: i32 = 0;
-    let mut i = 0;
-    while i < sizes.len() {
-        let x = sizes[i];
-        if g < x {
-            g = x;
+    for x in sizes {
+        if g < *x {
+            g = *x;
         }
-        i += 1;
     }
     g
 }
@@ -63,30 +59,28 @@ pub fn keys(sizes: &[i32], g: i32) -> u32
     ensures { result ≡ keys_below (length sizes.now) (size_at sizes.now) (nat_abs g) }
 {
     let mut sum: u32 = 0;
+    // Counted beside the sizes in 32 bits: from a place of 64 bits the compiler makes two keys at a time, not four.
     let mut key: u32 = 65536;
-    let mut i = 0;
-    while i < sizes.len() {
-        if sizes[i] == g {
+    for x in sizes {
+        if *x == g {
             sum += key;
         }
         key += 1;
-        i += 1;
     }
     sum
 }
 
 // The peak at the pair x, y: the mask of the sum where their signs are alike, and of the difference where they are not; where one of them
-// is 0 both have it.
-pub fn peak_at(sum: usize, difference: usize, x: i32, y: i32) -> Peak
+// is 0 both have it, and there is no peak.
+pub fn peak_at(sum: usize, difference: usize, x: i32, y: i32) -> Option<Peak>
     ensures { PeakAt sum difference x y result }
 {
-    let constant = if x < 0 { 1 } else { 0 };
-    let other = if y < 0 { 1 } else { 0 };
-    let mask = if constant == other { sum } else { difference };
-    let alone = if x == 0 { false } else { y != 0 };
-    Peak {
-        mask,
-        alone,
-        constant,
+    let tied = (x == 0) | (y == 0);
+    if tied {
+        return None;
     }
+    let constant = i32::from(x < 0);
+    let other = i32::from(y < 0);
+    let mask = if constant == other { sum } else { difference };
+    Some(Peak { mask, constant })
 }

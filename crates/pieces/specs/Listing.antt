@@ -3,7 +3,7 @@
 use Rattle.std.specs.Prelude.{ℕ, zero, suc, ◌+◌, Bool, true, false, cond, List, [], ◌∷◌, ◌++◌, length, drop}
 use Rattle.header.specs.Header.{header_test}
 use Rattle.tables.specs.declared.Table.{Table}
-use Rattle.tables.specs.declared.Slot.{Slot}
+use Rattle.tables.specs.Tables.{Slot, held}
 use Rattle.capture.specs.Capture as capture
 use Rattle.capture.specs.Capture.{slot_at, word_size, unpacked, record_in}
 use Rattle.lines.specs.Lines.{Lines, last_line, header_line, Entry, entry, record_entry}
@@ -26,7 +26,7 @@ module _ (reader : Lines) where
   abbrev pub entries_for : Slot → capture.Answer → List ℕ → (List ℕ → List Entry) → List Entry
   entries_for slot capture.none_left s more = []
   entries_for slot (capture.refused number serial) s more = entry (reader.of_refusal number serial) 0 ∷ []
-  entries_for slot (capture.record_at serial number next) s more = record_entry reader serial number slot.profile (unpacked slot s) ∷ more (drop next s)
+  entries_for slot (capture.record_at serial number next) s more = record_entry reader serial number (held slot) (unpacked slot s) ∷ more (drop next s)
 
 abbrev pub lines_of : List Entry → List ℕ
 lines_of [] = []

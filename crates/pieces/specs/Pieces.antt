@@ -1,7 +1,7 @@
 -- A part of a capture, listed by itself: what the functions of the listing promise. Assumes nothing.
 use Rattle.std.specs.Prelude.{ℕ, ◌+◌, ◌-◌, ◌*◌, ◌≤◌, ◌<◌, ◌≡◌, Bool, true, false, ◌&&◌, cond, List, [], ◌++◌, length, take, drop, ltb, ℤ}
 use Rattle.tables.specs.declared.Table.{Table}
-use Rattle.tables.specs.declared.Slot.{Slot}
+use Rattle.tables.specs.Tables.{Slot}
 use Rattle.capture.specs.Capture.{body_length, slot_at}
 use Rattle.lines.specs.Lines.{Lines, Entry}
 use Rattle.pieces.specs.declared.Listed.{Listed}

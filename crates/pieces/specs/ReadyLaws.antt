@@ -2,7 +2,7 @@
 use Rattle.std.specs.Prelude.{ℕ, ◌+◌, ◌*◌, ◌≤◌, ◌<◌, ◌≡◌, Bool, true, false, List, leb, length}
 use Rattle.std.proofs.Common.{arith, sym, ◌∙◌, leb-true, leb-false}
 use Rattle.std.proofs.lemmas.Bool.{false≢true}
-use Rattle.tables.specs.declared.Slot.{Slot}
+use Rattle.tables.specs.Tables.{Slot}
 use Rattle.capture.specs.Capture.{body_length}
 use Rattle.pieces.specs.Steps.{Readiness}
 

@@ -1,7 +1,7 @@
 -- What the steps of the listing ask and promise. Assumes nothing.
 use Rattle.std.specs.Prelude.{ℕ, ◌+◌, ◌*◌, ◌≤◌, ◌<◌, ◌≡◌, Bool, true, false, not, List, [], length, ℤ}
 use Rattle.tables.specs.declared.Table.{Table}
-use Rattle.tables.specs.declared.Slot.{Slot}
+use Rattle.tables.specs.Tables.{Slot}
 use Rattle.lines.specs.Lines.{Lines}
 use Rattle.capture.specs.Capture.{body_length, slot_at}
 use Rattle.pieces.specs.declared.Listed.{Listed}

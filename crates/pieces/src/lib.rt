@@ -7,7 +7,7 @@ ghost use Rattle.capture.specs.Capture.{body_length};
 ghost use Rattle.pieces.specs.Steps.{Readiness};
 ghost use Rattle.pieces.specs.PieceLaws.{joined as both};
 
-use tables::Slot;
+use profiles::Profile;
 
 // What was listed of a part of a capture: how many of its bytes, where the lines end in the output, how many lines there are and how
 // many of them for accepted records, and whether nothing more is to be listed.
@@ -22,7 +22,7 @@ pub struct Listed {
 
 // Whether what stands at the start of the part can be listed, by what the table has at its profile, with room for a line and an area for
 // the decoder.
-pub fn is_ready(slot: Slot, part: &[u8], last: bool, room: usize, area: usize) -> bool
+pub fn is_ready(slot: Option<Profile>, part: &[u8], last: bool, room: usize, area: usize) -> bool
     requires { Proper slot }
     ensures { Readiness slot part.now last room area result }
 {
@@ -41,7 +41,7 @@ pub fn is_ready(slot: Slot, part: &[u8], last: bool, room: usize, area: usize) -
 
 // How many numbers of an area of that length are lent for what stands at the start of the part: all of them for the first of a call, so
 // that all are zero after it, and from then on 8 × n, since clearing more would cost more than the reading.
-pub fn lent(slot: Slot, part: &[u8], first: bool, area: usize) -> usize
+pub fn lent(slot: Option<Profile>, part: &[u8], first: bool, area: usize) -> usize
     requires { Proper slot }
     ensures { result ≡ cond first area (64 * body_length slot part.now) }
 {
@@ -70,8 +70,5 @@ pub fn move_down(s: &mut [u8], from: usize)
     requires { from ≤ length s.old }
     ensures { s.new ≡ drop from s.old ++ drop (length s.old - from) s.old }
 {
-    let n = s.len() - from;
-    for i in 0..n {
-        s[i] = s[from + i];
-    }
+    s.copy_within(from.., 0);
 }

@@ -5,8 +5,7 @@ use Rattle.std.proofs.Math.Path.{refl, ap, ap₂}
 use Rattle.std.proofs.lemmas.Bool.{false≢true}
 use Rattle.header.specs.HeaderLaws.{header_first}
 use Rattle.tables.specs.declared.Table.{Table}
-use Rattle.tables.specs.declared.Slot.{Slot}
-use Rattle.tables.specs.Tables.{slot_of}
+use Rattle.tables.specs.Tables.{Slot, held, slot_of}
 use Rattle.capture.specs.Capture as capture
 use Rattle.capture.specs.Capture.{profile_at, record_size, serial_of, slot_at, unpacked}
 use Rattle.lines.specs.Lines.{Entry, last_line, record_entry}
@@ -36,7 +35,7 @@ module _ (t : Table) (s : List ℕ) where
       cc
 
   its : Entry
-  its = record_entry crew (serial_of s) (profile_at s) (slot_at t s).profile (unpacked (slot_at t s) s)
+  its = record_entry crew (serial_of s) (profile_at s) (held (slot_at t s)) (unpacked (slot_at t s) s)
 
   record_first : starts_record t s ≡ true → entries t crew s ≡ its ∷ entries t crew (drop (record_size (slot_at t s)) s)
   unfolding its
@@ -49,9 +48,9 @@ module _ (t : Table) (s s' : List ℕ) (h : SameRecord t s s') where
   its_same : its t s' ≡ its t s
   unfolding its
   its_same =
-      ap (λ (x : Slot). record_entry crew (serial_of s') (profile_at s') x.profile (unpacked x s')) slot_same
-      ∙ ap₂ (λ (i n : ℕ). record_entry crew i n (slot_at t s).profile (unpacked (slot_at t s) s')) h.serial h.profile
-      ∙ entry_same (serial_of s) (profile_at s) (slot_at t s).profile (unpacked (slot_at t s) s) (unpacked (slot_at t s) s') h.blocks.first h.blocks.second h.blocks.codeword
+      ap (λ (x : Slot). record_entry crew (serial_of s') (profile_at s') (held x) (unpacked x s')) slot_same
+      ∙ ap₂ (λ (i n : ℕ). record_entry crew i n (held (slot_at t s)) (unpacked (slot_at t s) s')) h.serial h.profile
+      ∙ entry_same (serial_of s) (profile_at s) (held (slot_at t s)) (unpacked (slot_at t s) s) (unpacked (slot_at t s) s') h.blocks.first h.blocks.second h.blocks.codeword
 
   records_then : entries t crew (drop (record_size (slot_at t s)) s') ≡ entries t crew (drop (record_size (slot_at t s)) s) → entries t crew s' ≡ entries t crew s
   records_then e =

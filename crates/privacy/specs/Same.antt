@@ -1,4 +1,5 @@
 -- Captures that the crew cannot tell apart: document 02, request 7. Assumes nothing.
+use Rattle.tables.specs.Tables.{held}
 use Rattle.std.specs.Prelude.{ℕ, ◌≡◌, true, List, [], take, drop}
 use Rattle.alike.specs.Alike.{Differ}
 use Rattle.header.specs.Header.{header_test}
@@ -16,7 +17,7 @@ module _ (t : Table) where
     pub second : starts_record t s' ≡ true
     pub serial : serial_of s' ≡ serial_of s
     pub profile : profile_at s' ≡ profile_at s
-    pub blocks : Differ (slot_at t s).profile.m (slot_at t s).profile.r (unpacked (slot_at t s) s) (unpacked (slot_at t s) s')
+    pub blocks : Differ (held (slot_at t s)).m (held (slot_at t s)).r (unpacked (slot_at t s) s) (unpacked (slot_at t s) s')
 
   -- "equally many whole records, nothing after the last and none meeting 14"
   pub data SameRecords : List ℕ → List ℕ → Type 0 where

@@ -5,14 +5,8 @@ ghost use Rattle.privacy.specs.Same.{SameLines, SameRecords};
 
 use pieces::Listed;
 use readers::Reader;
+use refusals::Both;
 use tables::Table;
-
-// What the two calls answer.
-#[derive(Clone, Copy)]
-pub struct Both {
-    pub first: Listed,
-    pub second: Listed,
-}
 
 // Lists two parts for the crew under one table, `last` where the inputs end with them.
 pub fn list_both(
@@ -24,13 +18,10 @@ pub fn list_both(
     out2: &mut [u8],
     area1: &mut [i32],
     area2: &mut [i32],
-) -> Both
+) -> Both<Listed>
     ensures { SameRecords table part1.now part2.now → SameLines result.first result.second out1.new out2.new }
 {
     let first = listing::list_part(Reader::Crew, table, part1, last, out1, area1);
     let second = listing::list_part(Reader::Crew, table, part2, last, out2, area2);
-    Both {
-        first: first,
-        second: second,
-    }
+    Both { first, second }
 }

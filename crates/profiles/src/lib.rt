@@ -6,7 +6,7 @@ ghost use Rattle.profiles.specs.Profiles;
 ghost use Rattle.profiles.specs.Profiles.{profile_of};
 
 // A code with the limits of its decoding.
-#[derive(Clone, Copy)]
+#[derive(Clone, Copy, Debug, PartialEq, Eq)]
 pub struct Profile {
     pub m: usize,
     pub r: usize,
@@ -25,22 +25,16 @@ fn row(m: usize, r: usize, rounds: usize, leaves: usize) -> Profile
     }
 }
 
-// The profile of that number. Tests, not a table: a table the compiler would write to the stack in every call.
+// The profile of that number. Cases, not a table: a table the compiler would write to the stack in every call.
 pub fn by_number(number: usize) -> Profile
     requires { number < 5 }
     ensures { result ≡ profile_of number }
 {
-    if number == 0 {
-        return row(5, 1, 4, 1);
+    match number {
+        0 => row(5, 1, 4, 1),
+        1 => row(6, 2, 4, 252),
+        2 => row(7, 2, 4, 508),
+        3 => row(8, 2, 4, 1020),
+        _ => row(8, 3, 4, 518160),
     }
-    if number == 1 {
-        return row(6, 2, 4, 252);
-    }
-    if number == 2 {
-        return row(7, 2, 4, 508);
-    }
-    if number == 3 {
-        return row(8, 2, 4, 1020);
-    }
-    row(8, 3, 4, 518160)
 }

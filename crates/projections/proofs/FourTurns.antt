@@ -39,12 +39,15 @@ module _ {m h w l : ℕ} (fours : InFours h w l) (d : IsDirection m (w + l)) whe
   two_le : 2 ≤ h
   two_le = high_top top (omega (arith, fours.some))
 
+  pub size_whole : 2 ^ m % 4 ≡ 0
+  size_whole = pow_whole m (omega (arith, two_le, highest_le))
+
 module _ {m h w l q p : ℕ} (t : FourTurn m h w l q p) where
   two : 2 ≤ h
   two = two_le t.fours t.direction
 
   pub block_room : q + 4 ≤ 2 ^ m
-  block_room = omega (arith, pow_whole m (omega (arith, two, highest_le t.fours t.direction)))
+  block_room = omega (arith, size_whole t.fours t.direction)
 
   pub place_whole : p % 4 ≡ 0
   place_whole = rw t.inserted (insert_whole h q two t.whole)

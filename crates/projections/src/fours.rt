@@ -1,5 +1,5 @@
 // Projections by blocks of 4 cosets, for directions from 4 on: the low digits l of the direction, b = w + l, only exchange
-// the places of a block. The loop tests q != n: of q < n, n a power of 2, the compiler makes a shift in every turn.
+// the places of a block.
 ghost use Rattle.std.specs.Prelude.{◌≡◌, suc, ◌+◌, ◌*◌, ◌^◌, pos};
 ghost use Rattle.std.specs.Int.Bits.{bit_xor};
 ghost use Rattle.words.specs.Word.{bit};
@@ -38,10 +38,9 @@ pub fn project_fours(m: usize, h: usize, w: usize, l: usize, area: &mut [i32])
     ensures { Written (pos 0) (4 * 2 ^ m) (2 ^ m) (λ q. pos (bit (Rattle.direction.specs.Direction.project m (w + l) (word_of (2 ^ suc m) area.old)) q)) area.old area.new }
 {
     let n = words::size(m);
-    let mut q = 0;
-    while q != n {
+    for k in 0..n / 4 {
+        let q = 4 * k;
         let p = direction::insert_zero(h, q);
         project_four(area, 4 * n + q, p, p ^ w, l);
-        q += 4;
     }
 }

@@ -13,7 +13,7 @@ use fours::project_fours;
 
 pub mod fours;
 
-// The projection by b, after the word and its votes.
+// The projection by b, after the word and its votes. The low digits are a literal in each call, of which the compiler makes one shuffle.
 pub fn project(m: usize, b: usize, area: &mut [i32])
     requires { Projects m b area.old }
     ensures { Written (pos 0) (4 * 2 ^ m) (2 ^ m) (λ q. pos (bit (Rattle.direction.specs.Direction.project m b (word_of (2 ^ suc m) area.old)) q)) area.old area.new }

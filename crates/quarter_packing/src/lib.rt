@@ -32,9 +32,7 @@ pub fn pack(q: usize, area: &mut [i32])
     requires { QuarterBits q area.old }
     ensures { Written (pos 0) (4 * q) q (quad_signs q area.old) area.old area.new }
 {
-    let mut i = 0;
-    while i < q {
-        pack_four(q, i, area);
-        i += 4;
+    for k in 0..q / 4 {
+        pack_four(q, 4 * k, area);
     }
 }

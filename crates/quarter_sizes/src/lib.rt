@@ -36,9 +36,7 @@ pub fn sizes(q: usize, part: &mut [i32])
     requires { Quads q part.old }
     ensures { Sized q q part.old part.new }
 {
-    let mut i = 0;
-    while i < q {
-        size_four(q, i, part);
-        i += 4;
+    for k in 0..q / 4 {
+        size_four(q, 4 * k, part);
     }
 }

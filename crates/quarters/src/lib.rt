@@ -11,7 +11,7 @@ use peaks::Peak;
 
 // The peak of the sums and differences of the q quads packed in the front of the part. The place of a quad is taken by a mask, which the
 // compiler makes without a branch or a division.
-pub fn search(q: usize, part: &mut [i32]) -> Peak
+pub fn search(q: usize, part: &mut [i32]) -> Option<Peak>
     requires { Quads q part.old }
     ensures { IsPeak ((q + q) + (q + q)) (joined (q + q) (firsts q part.old) (lasts q part.old)) result }
 {
@@ -21,11 +21,7 @@ pub fn search(q: usize, part: &mut [i32]) -> Peak
     let g = peaks::greatest(&part[q..e]);
     let key = peaks::keys(&part[q..e], g);
     if 131071 < key {
-        return Peak {
-            mask: 0,
-            alone: false,
-            constant: 0,
-        };
+        return None;
     }
     let j = (key % 65536) as usize;
     let low = j & (q - 1);

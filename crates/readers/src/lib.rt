@@ -9,9 +9,10 @@ ghost use Rattle.billing.specs.Accepted.{Answered};
 ghost use Rattle.readers.specs.Readers.{lines_for};
 
 use profiles::Profile;
-use refusals::{Decoded, Refusal};
+use refusals::{Accepted, Refusal, Refused};
 
-#[derive(Clone, Copy)]
+// By value: callers choose it as they run, and this crate alone asks which it is.
+#[derive(Clone, Copy, Debug, PartialEq, Eq)]
 pub enum Reader {
     Billing,
     Crew,
@@ -23,7 +24,7 @@ pub fn record_line(
     serial: u32,
     number: usize,
     p: Profile,
-    answer: Decoded,
+    answer: Result<Accepted, Refused>,
     decoded: &[u8],
     word: &mut [u8],
     out: &mut [u8],

@@ -1,4 +1,5 @@
 -- A round in the area: what its loop over the directions keeps, and what a direction does. Assumes nothing.
+use Rattle.std.specs.Prelude.{Option, None, Some, Ok, Err}
 use Prim.Native.Nat.{ℕ, suc, ◌+◌, ◌-◌, ◌*◌, ◌%◌, ◌^◌, ◌≤◌, ◌<◌}
 use native.Mathlib.Omega.{arith}
 use native.Mathlib.Numerals.{add-one}
@@ -24,14 +25,11 @@ use Rattle.rule.specs.Reading.{Outcome, abstained, abstains, leaves_of, reading,
 use Rattle.rule.specs.Decoding.{limited}
 use Rattle.rule.proofs.DecodingLaws.{limited_within}
 use Rattle.rule.proofs.Rounds.{vote_once}
-use Rattle.told.specs.Told.{numbers_of, numbers_in, Holds, Read, Kept}
+use Rattle.told.specs.Told.{numbers_of, Verdict, numbers_in, Holds, Read, Kept}
 use Rattle.told.specs.declared.Told.{Told}
-use Rattle.told.specs.declared.Verdict.{Verdict}
-use Rattle.told.specs.declared.Verdict.TheVariants.{Accepted, Refused}
-use Rattle.steps.specs.Steps.{count_in, count_of, vote_of, Voter, Unmoved}
+use Rattle.steps.specs.Steps.{done, count_in, count_of, vote_of, Voter, Unmoved}
 use Rattle.steps.specs.Answers.{Numbered, by_answer, count_is, counted, limited_numbered, spent}
 use Rattle.steps.specs.declared.Count.{Count}
-use Rattle.steps.specs.declared.Count.TheVariants.{Done, Exhausted}
 use Rattle.readings.specs.Answers.{reading_unlimited}
 use Rattle.readings.specs.Readings.{Ready, Voted}
 
@@ -223,8 +221,8 @@ back a zs us = put_mid a (length zs - a) zs us
 
 -- a direction has no vote where it would cast none
 no_vote : (m b : ℕ) (xs : List ℤ) (p : ℕ) (v : Verdict) → cast_vote m b xs p ≡ 0 → vote_of m b xs v p ≡ 0
-no_vote m b xs p (Accepted k l) e = e
-no_vote m b xs p (Refused why k l) e = refl
+no_vote m b xs p (Ok w) e = e
+no_vote m b xs p (Err u) e = refl
 
 module _ {f : Round} {ys zs us : List ℤ} {i used absent a : ℕ} {told : Told} (answered : Answered f ys zs us i used absent a told) where
   open f use {m, r, limit, left, word, size}
@@ -273,8 +271,8 @@ module _ {f : Round} {ys zs us : List ℤ} {i used absent a : ℕ} {told : Told}
   voter : Voter m answer (back a zs us)
   voter =
       by_answer (λ (v : Verdict) (x : Outcome). Holds (2 ^ m) x us → Voter m v (back a zs us))
-      (λ d k l h. record { decoded = λ q u. subst IsBit (sym (at_decoded q u ∙ h.each q u)) (is_bit _ (h.bits q u)) })
-      (λ why k l h. tt) answer o numbered said holds
+      (λ d w h. record { decoded = λ q u. subst IsBit (sym (at_decoded q u ∙ h.each q u)) (is_bit _ (h.bits q u)) })
+      (λ u h. tt) answer o numbered said holds
 
   coset_here : (p : ℕ) → p < 2 ^ suc m → coset_of (suc i) p < 2 ^ m
   coset_here p h = number_lt {b = suc i} (record { small = stage.small; some = omega arith; under = omega arith }) p h
@@ -313,26 +311,26 @@ module _ {f : Round} {ys zs us : List ℤ} {i used absent a : ℕ} {told : Told}
   vote_is p u =
       by_answer
       (λ (v : Verdict) (x : Outcome). Holds (2 ^ m) x us → vote_of m (i + 1) (back a zs us) v p ≡ vote (suc i) (project m (suc i) word) x p)
-      (λ d k l h.
+      (λ d w h.
       cast_is p u
       ∙ ap (λ (z : ℤ). (bit (project m (suc i) word) (coset_of (suc i) p) + nat_abs z) % 2) (h.each (coset_of (suc i) p) (coset_here p u)))
-      (λ why k l h. refl) answer o numbered said holds
+      (λ u h. refl) answer o numbered said holds
 
 -- its votes are cast, and its leaves counted
-pub record Cast (f : Round) (ys zs us ts : List ℤ) (i used absent a : ℕ) (told : Told) (count : Count) : Type 0 where
+pub record Cast (f : Round) (ys zs us ts : List ℤ) (i used absent a : ℕ) (told : Told) (count : Option Count) : Type 0 where
   pub answered : Answered f ys zs us i used absent a told
   pub counts : count ≡ count_in (numbers_in told.answer)
   pub votes : Written (pos 0) (2 ^ suc f.m) (2 ^ suc f.m)
       (λ p. at (back a zs us) (2 ^ suc f.m + p) +ℤ pos (vote_of f.m (i + 1) (back a zs us) told.answer p)) (back a zs us) ts
 
-pub cast_of : {f : Round} {ys zs us ts : List ℤ} {i used absent a : ℕ} {told : Told} {count : Count} → Answered f ys zs us i used absent a told
+pub cast_of : {f : Round} {ys zs us ts : List ℤ} {i used absent a : ℕ} {told : Told} {count : Option Count} → Answered f ys zs us i used absent a told
     → count ≡ count_in (numbers_in told.answer)
     → Written (pos 0) (2 ^ suc f.m) (2 ^ suc f.m)
     (λ p. at (back a zs us) (2 ^ suc f.m + p) +ℤ pos (vote_of f.m (i + 1) (back a zs us) told.answer p)) (back a zs us) ts
     → Cast f ys zs us ts i used absent a told count
 cast_of answered counts votes = record { answered = answered; counts = counts; votes = votes }
 
-module _ {f : Round} {ys zs us ts : List ℤ} {i used absent a : ℕ} {told : Told} {count : Count}
+module _ {f : Round} {ys zs us ts : List ℤ} {i used absent a : ℕ} {told : Told} {count : Option Count}
     (cast : Cast f ys zs us ts i used absent a told count) where
   open f use {m, r, limit, left, word, size}
   open cast use {answered, counts, votes}
@@ -350,7 +348,7 @@ module _ {f : Round} {ys zs us ts : List ℤ} {i used absent a : ℕ} {told : To
   cast_long = votes.long ∙ long_back answered
 
   -- the leaves of the directions up to this one are more than were left, and so are the round's
-  pub cast_over : count ≡ Exhausted → left < round_leaves m (reading r m limit) word
+  pub cast_over : count ≡ None → left < round_leaves m (reading r m limit) word
   unfolding round_leaves total
   cast_over e =
       omega (
@@ -362,20 +360,20 @@ module _ {f : Round} {ys zs us ts : List ℤ} {i used absent a : ℕ} {told : To
         sum_prefix (2 ^ suc m - 1) (suc i) (λ j. leaves_of (read_at f j)) (omega arith),
       )
 
-  module _ (l b : ℕ) (e : count ≡ Done l b) where
-    enough : (l ≡ leaves_of (read_at f i)) × (leaves_of (read_at f i) ≤ left - used) × (b ≡ abstains (read_at f i))
-    enough = counted (left - used) (leaves_of (read_at f i)) (abstains (read_at f i)) counts_is l b e
+  module _ (d : Count) (e : count ≡ Some d) where
+    enough : (d.leaves ≡ leaves_of (read_at f i)) × (leaves_of (read_at f i) ≤ left - used) × (d.abstained ≡ abstains (read_at f i))
+    enough = counted (left - used) (leaves_of (read_at f i)) (abstains (read_at f i)) counts_is d e
 
-    pub cast_few : used + l ≤ left
+    pub cast_few : used + d.leaves ≤ left
     cast_few = omega (arith, enough, poll.few)
 
     -- those that abstained are no more than the directions
-    pub cast_absent : absent + b ≤ i + 1
+    pub cast_absent : absent + d.abstained ≤ i + 1
     cast_absent =
         let once : (j : ℕ) → abstains (read_at f j) ≤ 1 = λ j. omega (arith, vote_once 0 word (read_at f j) 0) in
         omega (arith, enough, poll.missed, once i, sum_most i 1 _ (λ j h. once j))
 
-    pub cast_more : Poll f ts (i + 1) (used + l) (absent + b)
+    pub cast_more : Poll f ts (i + 1) (used + d.leaves) (absent + d.abstained)
     unfolding total
     cast_more = record {
       long = cast_long;
@@ -405,21 +403,21 @@ module _ {f : Round} {xs : List ℤ} (from : From f xs) where
 
   -- every direction was counted
   pub poll_done : {ys : List ℤ} {i used absent : ℕ} → Poll f ys i used absent → 2 ^ suc m - 1 ≤ i
-      → Voted m left (reading r m limit) xs ys (Done used absent)
+      → Voted m left (reading r m limit) xs ys (done used absent)
   unfolding votes round_leaves abstained
   poll_done {ys} {i} {used} {absent} poll end =
       let e : i ≡ 2 ^ suc m - 1 = omega (arith, poll.many) in
       let all : used ≡ round_leaves m (reading r m limit) (word_of (2 ^ suc m) xs) = poll.counted ∙ ap (leaves_to f) e ∙ ap (round_leaves m (reading r m limit)) from.word in
       let missed : absent ≡ abstained m (reading r m limit) (word_of (2 ^ suc m) xs) = poll.missed ∙ ap (absent_to f) e ∙ ap (abstained m (reading r m limit)) from.word in
       record {
-        said = subst (λ (l : ℕ). Done used absent ≡ count_of left l (abstained m (reading r m limit) (word_of (2 ^ suc m) xs))) all (rw (le-ltb left used poll.few) (ap (Done used) missed));
+        said = subst (λ (l : ℕ). done used absent ≡ count_of left l (abstained m (reading r m limit) (word_of (2 ^ suc m) xs))) all (rw (le-ltb left used poll.few) (ap (done used) missed));
         kept = kept poll.long poll.word;
         tally = λ _ p h. poll.voted p h ∙ ap (λ (j : ℕ). pos (votes_to f j p)) e ∙ ap (λ (u : List ℕ). pos (votes m (reading r m limit) u p)) from.word;
       }
 
   -- there were not leaves enough
   pub poll_spent : {ys : List ℤ} → length ys ≡ size → Front (2 ^ suc m) word ys → left < round_leaves m (reading r m limit) word
-      → Voted m left (reading r m limit) xs ys Exhausted
+      → Voted m left (reading r m limit) xs ys None
   poll_spent e w h =
       let over : left < round_leaves m (reading r m limit) (word_of (2 ^ suc m) xs) = subst (λ (u : List ℕ). left < round_leaves m (reading r m limit) u) from.word h in
       record {
@@ -459,7 +457,7 @@ module _ {m r left n : ℕ} {xs zs : List ℤ} (s : Starting m r left n xs zs) w
   started_poll limit = start_poll zeroed r limit left s.ready.bits
 
   module _ {limit i used absent : ℕ} {ys : List ℤ} (poll : Poll (round_of m r limit left (started n xs zs)) ys i used absent) where
-    pub started_done : 2 * n - 1 ≤ i → Voted m left (reading r m limit) xs ys (Done used absent)
+    pub started_done : 2 * n - 1 ≤ i → Voted m left (reading r m limit) xs ys (done used absent)
     started_done h = poll_done (started_from limit) poll (omega (arith, s.number))
 
     module _ (less : i < 2 * n - 1) where
@@ -482,3 +480,24 @@ module _ {m r left n : ℕ} {xs zs : List ℤ} (s : Starting m r left n xs zs) w
             → Read (2 ^ m) (limited (left - used) (reading r m limit (word_of (2 ^ m) (rest (2 * (2 * n)) us)))) vs told.answer
             → Kept (2 ^ m) (rest (2 * (2 * n)) us) vs told → Answered (round_of m r limit left (started n xs zs)) ys us vs i used absent (2 * (2 * n)) told
         started_answered same read kept = record { lent = started_lent; same = same; read = read; kept = kept }
+
+-- ---- a direction of the code's round was read and cast
+
+module _ {m r left n limit i used absent : ℕ} {xs zs ys us vs : List ℤ} {told : Told} (ready : Ready (suc m) (suc r) left xs) (some : 1 ≤ r) (number : n ≡ 2 ^ m)
+    (filled : zs ≡ replicate (length (take (2 * (2 * n) - 2 * n) (drop (2 * n) xs))) (pos 0))
+    (poll : Poll (round_of m r limit left (started n xs zs)) ys i used absent) (less : i < 2 * n - 1)
+    (projected : Written (pos 0) (4 * 2 ^ m) (2 ^ m) (λ q. pos (bit (project m (i + 1) (word_of (2 ^ suc m) ys)) q)) ys us)
+    (same : length vs ≡ length (rest (2 * (2 * n)) us))
+    (read : Read (2 ^ m) (limited (left - used) (reading r m limit (word_of (2 ^ m) (rest (2 * (2 * n)) us)))) vs told.answer)
+    (kept : Kept (2 ^ m) (rest (2 * (2 * n)) us) vs told) where
+  abbrev start : Starting m r left n xs zs
+  start = starting ready some number filled
+
+  pub heard : Answered (round_of m r limit left (started n xs zs)) ys us vs i used absent (2 * (2 * n)) told
+  heard = started_answered start poll less projected same read kept
+
+  pub heard_cast : {ts : List ℤ} {count : Option Count} → count ≡ count_in (numbers_in told.answer)
+      → Written (pos 0) (2 ^ suc m) (2 ^ suc m)
+      (λ p. at (back (2 * (2 * n)) us vs) (2 ^ suc m + p) +ℤ pos (vote_of m (i + 1) (back (2 * (2 * n)) us vs) told.answer p)) (back (2 * (2 * n)) us vs) ts
+      → Cast (round_of m r limit left (started n xs zs)) ys us vs ts i used absent (2 * (2 * n)) told count
+  heard_cast counts votes = cast_of heard counts votes

@@ -1,4 +1,5 @@
 -- A reading in the area: orders 0 and 1, and what its loop over the rounds keeps. Assumes nothing.
+use Rattle.std.specs.Prelude.{Option, None, Some}
 use Prim.Native.Nat.{ℕ, zero, suc, ◌+◌, ◌-◌, ◌*◌, ◌%◌, ◌^◌, ◌≤◌, ◌<◌}
 use native.Mathlib.Omega.{arith}
 use native.Mathlib.Nat.{sub-zero}
@@ -24,14 +25,11 @@ use Rattle.rule.specs.Counts.{Leaf}
 use Rattle.rule.proofs.Counts.{reading_leaf, round_least}
 use Rattle.rule.specs.Decoding.{limited}
 use Rattle.rule.proofs.DecodingLaws.{limited_within}
-use Rattle.told.specs.Told.{numbers_in, Read}
+use Rattle.told.specs.Told.{Verdict, as_accepted, as_refused, numbers_in, Read}
 use Rattle.told.specs.ToldLaws.{read_above, read_within}
 use Rattle.told.specs.declared.Noise.TheVariants.{Flipping, TooManyLeaves, Unsettled}
-use Rattle.told.specs.declared.Verdict.{Verdict}
-use Rattle.told.specs.declared.Verdict.TheVariants.{Accepted, Refused}
 use Rattle.flips.specs.Flips.{flip_of}
 use Rattle.steps.specs.declared.Count.{Count}
-use Rattle.steps.specs.declared.Count.TheVariants.{Done, Exhausted}
 use Rattle.readings.specs.Readings.{Ready, Voted}
 use Rattle.steps.specs.Answers.{counted, spent}
 use Rattle.readings.proofs.Flips.{Polled, abstained-lt, polled_tally, still_is, word_flipped, word_settled}
@@ -57,7 +55,7 @@ module _ (r m limit left : ℕ) (w : List ℕ) (ys : List ℤ) where
   unfolding reading
   read_one e some read = whole_read (omega arith) (omega arith) (rw e read)
 
-  pub read_none : r ≡ 1 → left ≡ 0 → Read (2 ^ m) (limited left (reading r m limit w)) ys (Refused TooManyLeaves 0 left)
+  pub read_none : r ≡ 1 → left ≡ 0 → Read (2 ^ m) (limited left (reading r m limit w)) ys (as_refused TooManyLeaves 0 left)
   read_none e none = read_above ys (reading r m limit w) (omega (arith, leaves_are (omega arith)))
 
 -- ---- order 2 and above
@@ -98,35 +96,38 @@ module _ {f : Series} {ys : List ℤ} {k used : ℕ} (turn : Turn f ys k used) w
   next h = turn.same ∙ ap (λ (j : ℕ). rounds m lower r j k used w) (omega arith)
 
   -- the rounds are used up
-  pub turn_last : limit ≤ k → Reads f ys (Refused Flipping k used)
+  pub turn_last : limit ≤ k → Reads f ys (as_refused Flipping limit used)
   turn_last h =
-      let e : whole ≡ refused 10 k used = turn.same ∙ ap (λ (j : ℕ). rounds m lower r j k used w) {x = limit - k} {y = 0} (omega arith) ∙ rounds_none m lower r k used w in
-      rw e (read_within ys (refused 10 k used) turn.few refl tt)
+      let last : k ≡ limit = omega (arith, turn.many) in
+      let e : whole ≡ refused 10 limit used =
+      turn.same ∙ ap (λ (j : ℕ). rounds m lower r j k used w) {x = limit - k} {y = 0} (omega arith) ∙ rounds_none m lower r k used w
+      ∙ ap (λ (j : ℕ). refused 10 j used) last in
+      rw e (read_within ys (refused 10 limit used) turn.few refl tt)
 
   -- the next round's leaves are too many
-  pub turn_exhausted : {zs us : List ℤ} {c : Count} → k < limit → Voted m (left - used) lower ys zs c → c ≡ Exhausted → Reads f us (Refused TooManyLeaves 0 left)
+  pub turn_exhausted : {zs us : List ℤ} {c : Option Count} → k < limit → Voted m (left - used) lower ys zs c → c ≡ None → Reads f us (as_refused TooManyLeaves 0 left)
   turn_exhausted {us = us} h voted e =
       read_above us whole
       (omega (arith, turn.few, spent (left - used) (round_leaves m lower w) (abstained m lower w) voted.said e, round_least m lower r (limit - (k + 1)) k used w, ap leaves_of (next h)))
 
--- a round was made, which answered c, `count` leaves and `absent` directions that abstained
-pub record Made (f : Series) (ys zs : List ℤ) (k used : ℕ) (c : Count) (count absent : ℕ) : Type 0 where
+-- a round was made, which answered c
+pub record Made (f : Series) (ys zs : List ℤ) (k used : ℕ) (c : Option Count) (count : Count) : Type 0 where
   pub up : suc f.m ≡ f.M
   pub turn : Turn f ys k used
   pub more : k < f.limit
   pub room : 2 * 2 ^ f.M ≤ length f.start
   pub same_length : length zs ≡ length ys
   pub voted : Voted f.m (f.left - used) f.lower ys zs c
-  pub done : c ≡ Done count absent
+  pub done : c ≡ Some count
 
-module _ {f : Series} {ys zs : List ℤ} {k used : ℕ} {c : Count} {count absent : ℕ} (made : Made f ys zs k used c count absent) where
+module _ {f : Series} {ys zs : List ℤ} {k used : ℕ} {c : Option Count} {count : Count} (made : Made f ys zs k used c count) where
   open f use {M, m, r, limit, left, lower, whole, start}
   open made use {up, turn, voted}
 
-  leaves : (count ≡ round_leaves m lower (w turn)) × (round_leaves m lower (w turn) ≤ left - used) × (absent ≡ abstained m lower (w turn))
-  leaves = counted (left - used) (round_leaves m lower (w turn)) (abstained m lower (w turn)) voted.said count absent made.done
+  leaves : (count.leaves ≡ round_leaves m lower (w turn)) × (round_leaves m lower (w turn) ≤ left - used) × (count.abstained ≡ abstained m lower (w turn))
+  leaves = counted (left - used) (round_leaves m lower (w turn)) (abstained m lower (w turn)) voted.said count made.done
 
-  pub made_few : used + count ≤ left
+  pub made_few : used + count.leaves ≤ left
   made_few = omega (arith, leaves, turn.few)
 
   polled : Polled m lower (w turn) zs
@@ -138,7 +139,7 @@ module _ {f : Series} {ys zs : List ℤ} {k used : ℕ} {c : Count} {count absen
   long : length zs ≡ length start
   long = made.same_length ∙ turn.long
 
-  pub made_flips : (n : ℕ) → n ≡ 2 ^ M → M ≤ 10 → ((absent < n) × (n ≤ 1024) × (2 * n ≤ length zs)) × (Bits n zs × Tally n n zs)
+  pub made_flips : (n : ℕ) → n ≡ 2 ^ M → M ≤ 10 → ((count.abstained < n) × (n ≤ 1024) × (2 * n ≤ length zs)) × (Bits n zs × Tally n n zs)
   made_flips n e h =
       let q : 2 ^ suc m ≡ n = power ∙ sym e in (
         (omega (arith, q, leaves.2, abstained-lt m lower (w turn)), omega (arith, pow_mono h), omega (arith, long, made.room)),
@@ -149,13 +150,13 @@ module _ {f : Series} {ys zs : List ℤ} {k used : ℕ} {c : Count} {count absen
       )
 
 -- the flips were made in the first n numbers; b says that there were none
-pub record Flips (f : Series) (ys zs us : List ℤ) (k used : ℕ) (c : Count) (count absent n : ℕ) (b : Bool) : Type 0 where
-  pub made : Made f ys zs k used c count absent
+pub record Flips (f : Series) (ys zs us : List ℤ) (k used : ℕ) (c : Option Count) (count : Count) (n : ℕ) (b : Bool) : Type 0 where
+  pub made : Made f ys zs k used c count
   pub many : n ≡ 2 ^ f.M
-  pub none : b ≡ all_below n (λ p. eqb (flip_of n absent zs p) 0)
-  pub flipped : Written (pos 0) 0 n (λ p. pos ((bit (word_of n zs) p + flip_of n absent zs p) % 2)) zs us
+  pub none : b ≡ all_below n (λ p. eqb (flip_of n count.abstained zs p) 0)
+  pub flipped : Written (pos 0) 0 n (λ p. pos ((bit (word_of n zs) p + flip_of n count.abstained zs p) % 2)) zs us
 
-module _ {f : Series} {ys zs us : List ℤ} {k used : ℕ} {c : Count} {count absent n : ℕ} {b : Bool} (flipping : Flips f ys zs us k used c count absent n b) where
+module _ {f : Series} {ys zs us : List ℤ} {k used : ℕ} {c : Option Count} {count : Count} {n : ℕ} {b : Bool} (flipping : Flips f ys zs us k used c count n b) where
   open f use {M, m, r, limit, left, lower, whole, start}
   open flipping use {made, many, none, flipped}
   open made use {up, turn}
@@ -189,7 +190,7 @@ module _ {f : Series} {ys zs us : List ℤ} {k used : ℕ} {c : Count} {count ab
   step = next turn made.more ∙ rounds_step m lower r (limit - (k + 1)) k used x
 
   -- something flipped
-  pub flips_again : b ≡ false → Turn f us (k + 1) (used + count)
+  pub flips_again : b ≡ false → Turn f us (k + 1) (used + count.leaves)
   flips_again e = record {
     long = flips_here.long ∙ long made;
     first = λ z. absurd (omega arith);
@@ -206,7 +207,7 @@ module _ {f : Series} {ys zs us : List ℤ} {k used : ℕ} {c : Count} {count ab
     unchanged = word_settled (polled made) room flips_here (sym still_here ∙ e)
 
     pub flips_settled : {vs : List ℤ} {a : Verdict}
-        → a ≡ cond (codeword_test M r (word_of (2 ^ M) us)) (Accepted (k + 1) (used + count)) (Refused Unsettled (k + 1) (used + count))
+        → a ≡ cond (codeword_test M r (word_of (2 ^ M) us)) (as_accepted (k + 1) (used + count.leaves)) (as_refused Unsettled (k + 1) (used + count.leaves))
         → SameFront (2 ^ M) us vs → Reads f vs a
     flips_settled {vs} {a} said kept =
         rw (rw (sym still_here ∙ e) at step)
@@ -219,7 +220,7 @@ module _ {f : Series} {ys zs us : List ℤ} {k used : ℕ} {c : Count} {count ab
         holds = front_kept (subst (λ (j : ℕ). Front j x us) (power made) unchanged) kept.same
 
         answer : Bool → Verdict
-        answer t = cond t (Accepted (k + 1) (used + count)) (Refused Unsettled (k + 1) (used + count))
+        answer t = cond t (as_accepted (k + 1) (used + count.leaves)) (as_refused Unsettled (k + 1) (used + count.leaves))
 
         l : ℕ
         l = used + round_leaves m lower x
@@ -283,22 +284,30 @@ turn_first m r limit left xs h some bits =
           ∙ ap₂ (λ (i j : ℕ). rounds (m - 1) (reading (r - 1) (m - 1) limit) r i 0 0 (word_of (2 ^ j) xs)) (sym (sub-zero limit)) up;
     }
 
--- a round was made by the code
-pub made_of : {m r limit left k used count absent : ℕ} {xs ys zs : List ℤ} {c : Count} → 2 ≤ r → Ready m r left xs
-    → Turn (series m r limit left xs) ys k used → k < limit → length zs ≡ length ys
-    → Voted (m - 1) (left - used) (reading (r - 1) (m - 1) limit) ys zs c → c ≡ Done count absent
-    → Made (series m r limit left xs) ys zs k used c count absent
-made_of h ready turn more e voted done = record {
-  up = omega (arith, ready.some);
-  turn = turn;
-  more = more;
-  room = omega (arith, ready.room);
-  same_length = e;
-  voted = voted;
-  done = done;
-}
+-- what the code's tests leave of the order
+pub above : {r : ℕ} → (r ≡ 0 → ⊥) → (r ≡ 1 → ⊥) → 2 ≤ r
+above h g = omega arith
 
-pub flips_of : {f : Series} {ys zs us : List ℤ} {k used : ℕ} {c : Count} {count absent n : ℕ} {b : Bool} → Made f ys zs k used c count absent → n ≡ 2 ^ f.M
-    → b ≡ all_below n (λ p. eqb (flip_of n absent zs p) 0)
-    → Written (pos 0) 0 n (λ p. pos ((bit (word_of n zs) p + flip_of n absent zs p) % 2)) zs us → Flips f ys zs us k used c count absent n b
-flips_of made many none flipped = record { made = made; many = many; none = none; flipped = flipped }
+-- a round was made by the code
+module _ {m r limit left k used : ℕ} {count : Count} {xs ys zs : List ℤ} {c : Option Count} (some : r ≡ 0 → ⊥) (more : r ≡ 1 → ⊥)
+    (ready : Ready m r left xs) (turn : Turn (series m r limit left xs) ys k used) (next : k < limit) (same : length zs ≡ length ys)
+    (voted : Voted (m - 1) (left - used) (reading (r - 1) (m - 1) limit) ys zs c) (done : c ≡ Some count) where
+  pub made_of : Made (series m r limit left xs) ys zs k used c count
+  made_of =
+      let two : 2 ≤ r = above some more in
+      record {
+        up = omega (arith, ready.some);
+        turn = turn;
+        more = next;
+        room = omega (arith, ready.room);
+        same_length = same;
+        voted = voted;
+        done = done;
+      }
+
+  -- and its flips
+  pub flips_of : {n : ℕ} {b : Bool} {us : List ℤ} → n ≡ 2 ^ m
+      → b ≡ all_below n (λ p. eqb (flip_of n count.abstained zs p) 0)
+      → Written (pos 0) 0 n (λ p. pos ((bit (word_of n zs) p + flip_of n count.abstained zs p) % 2)) zs us
+      → Flips (series m r limit left xs) ys zs us k used c count n b
+  flips_of many none flipped = record { made = made_of; many = many; none = none; flipped = flipped }

@@ -3,7 +3,7 @@
 // lent to the readings one order lower.
 #![tactic(auto)]
 
-ghost use Rattle.std.specs.Prelude.{◌≡◌, ℕ, suc, ◌+◌, ◌*◌, ◌^◌, ◌≤◌, ◌<◌, length};
+ghost use Rattle.std.specs.Prelude.{suc, ◌+◌, ◌*◌, ◌^◌, ◌≤◌, ◌<◌};
 ghost use Rattle.area.specs.Area.{word_of};
 ghost use Rattle.rule.specs.Reading;
 ghost use Rattle.rule.specs.Decoding.{limited};
@@ -14,9 +14,10 @@ use flips::{flip, settle};
 use order_one::first_order;
 use order_zero::zero_order;
 use steps::{Count, cast};
-use told::{Noise, Told, Verdict, changed};
+use told::{Noise, Told, refused};
 
-// The reading of the word in the front of the area, with at most `left` leaves.
+// The reading of the word in the front of the area, with at most `left` leaves. Numbers, no Profile: all but the round limit fall with every
+// call.
 #[cycle(reading_round)]
 pub fn reading(m: usize, r: usize, rounds: usize, left: usize, area: &mut [i32]) -> Told
     requires { Ready m r left area.old }
@@ -28,34 +29,28 @@ pub fn reading(m: usize, r: usize, rounds: usize, left: usize, area: &mut [i32])
     }
     if r == 1 {
         if left == 0 {
-            return changed(Verdict::Refused(Noise::TooManyLeaves, 0, left));
+            return refused(Noise::TooManyLeaves, 0, left);
         }
         return first_order(m, area);
     }
     let n = words::size(m);
-    let mut k = 0;
     let mut used = 0;
-    while k < rounds {
-        match round(m - 1, r - 1, rounds, left - used, area) {
-            Count::Exhausted => {
-                return changed(Verdict::Refused(Noise::TooManyLeaves, 0, left));
-            }
-            Count::Done(leaves, abstained) => {
-                used += leaves;
-                k += 1;
-                if flip(n, abstained, area) {
-                    return settle(m, r, k, used, area);
-                }
-            }
+    for k in 0..rounds {
+        let Some(count) = round(m - 1, r - 1, rounds, left - used, area) else {
+            return refused(Noise::TooManyLeaves, 0, left);
+        };
+        used += count.leaves;
+        if flip(n, count.abstained, area) {
+            return settle(m, r, k + 1, used, area);
         }
     }
-    changed(Verdict::Refused(Noise::Flipping, k, used))
+    refused(Noise::Flipping, rounds, used)
 }
 
 // A round of the word of exponent m + 1 in the front of the area: every direction's votes, by readings at exponent m and order r, their leaves
 // and how many directions abstained.
 #[cycle(reading_round)]
-fn round(m: usize, r: usize, rounds: usize, left: usize, area: &mut [i32]) -> Count
+fn round(m: usize, r: usize, rounds: usize, left: usize, area: &mut [i32]) -> Option<Count>
     requires ready { Ready (suc m) (suc r) left area.old }
     requires le_r { 1 ≤ r }
     ensures { Voted m left (Rattle.rule.specs.Reading.reading r m rounds) area.old area.new result }
@@ -68,15 +63,12 @@ fn round(m: usize, r: usize, rounds: usize, left: usize, area: &mut [i32]) -> Co
     for i in 0..n - 1 {
         projections::project(m, i + 1, area);
         let told = reading(m, r, rounds, left - used, &mut area[rest..]);
-        match cast(m, i + 1, told, area) {
-            Count::Exhausted => {
-                return Count::Exhausted;
-            }
-            Count::Done(leaves, abstains) => {
-                used += leaves;
-                abstained += abstains;
-            }
-        }
+        let count = cast(m, i + 1, told, area)?;
+        used += count.leaves;
+        abstained += count.abstained;
     }
-    Count::Done(used, abstained)
+    Some(Count {
+        leaves: used,
+        abstained,
+    })
 }

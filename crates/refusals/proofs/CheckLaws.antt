@@ -1,5 +1,5 @@
 -- Laws of the checks of a call: what each test on the way says of the number of the first that fails. Assumes nothing.
-use Rattle.std.specs.Prelude.{ℕ, zero, suc, ◌≤◌, ◌<◌, ◌≡◌, refl, Bool, true, false, not, ◌&&◌, ◌||◌, List, [], ◌∷◌, ◌++◌, length, eqb}
+use Rattle.std.specs.Prelude.{ℕ, zero, suc, ◌≤◌, ◌<◌, ◌≡◌, refl, Bool, true, false, not, ◌&&◌, ◌||◌, List, [], ◌∷◌, ◌++◌, length, eqb, Result, Ok, Err, IsErrAnd}
 use Rattle.std.proofs.Common.{arith, sym, ap, ◌∙◌}
 use Rattle.std.proofs.Math.Decide.{dec_lt}
 use Rattle.std.proofs.lemmas.Bool.{false≢true}
@@ -8,12 +8,11 @@ use borrow.Author.Tests.{not-true, le-leb, lt-leb, leb-true, ne_eqb, ltb-true, l
 use Rattle.words.specs.SumLaws.{all_true, true_all, some_false, both_true}
 use Rattle.words.specs.Word.{bit, lowest_bad}
 use Rattle.words.specs.Search.{lowest_above, lowest_before}
-use Rattle.refusals.specs.Refusals.{Checked, number_of, place_of, answer_number, answer_place, place_named, Check, check, first_refusal, area_kept, code_checks, all_bits, byte_checks}
+use Rattle.refusals.specs.Refusals.{Checked, number_of, place_of, answer_number, answer_place, place_named, Check, check, first_refusal, area_kept, code_checks, all_bits, byte_checks, Answer}
 use Rattle.refusals.specs.declared.Refusal.{Refusal}
 use Rattle.refusals.specs.declared.Refusal.TheVariants.{Exponent, Order, RoundLimit, LeafLimit, InputLength, OutputLength, AreaLength, BadByte, Tie, Flipping, Unsettled, TooManyLeaves, NotCodeword, Profile, Header, Truncated, Erased, OutOfRange, TableFile, TableEntry, LoadStart, WrongPlaces, Meters, Retries, UnknownName, NamesFull, ArrayExponent, NotArray}
-use Rattle.refusals.specs.declared.Answer.{Answer}
-use Rattle.refusals.specs.declared.Answer.TheVariants.{Done, Refused}
 use Rattle.refusals.specs.IsCode.{IsCode}
+use Rattle.std.proofs.lemmas.Result.{err_from_is_err_and}
 
 pub no_more : 0 ≡ first_refusal []
 unfolding first_refusal
@@ -194,9 +193,9 @@ number_pos ArrayExponent = omega arith
 number_pos NotArray = omega arith
 
 -- an answer whose number is 0
-pub done_of : (a : Answer) → answer_number a ≡ 0 → a ≡ Done
-done_of Done e = refl
-done_of (Refused why) e = absurd (omega (arith, number_pos why))
+pub done_of : (a : Answer) → answer_number a ≡ 0 → a ≡ (Ok tt)
+done_of (Ok tt) e = refl
+done_of (Err why) e = absurd (omega (arith, number_pos why))
 
 -- ---- bytes
 
@@ -224,15 +223,15 @@ module _ (s : List ℕ) where
 
 -- ---- what a checking function answers
 
-pub all_pass : {cs : List Check} {s : List ℕ} → 0 ≡ first_refusal cs → Checked cs s Done
+pub all_pass : {cs : List Check} {s : List ℕ} → 0 ≡ first_refusal cs → Checked cs s (Ok tt)
 all_pass {cs} {s} e = record { number = e; place = rw (← e) (sym (other_place s 0 (λ z. omega arith))) }
 
 -- a refusal that names no place
-pub refuses : {cs : List Check} {s : List ℕ} (why : Refusal) → holds_place (number_of why) ≡ false → number_of why ≡ first_refusal cs → Checked cs s (Refused why)
+pub refuses : {cs : List Check} {s : List ℕ} (why : Refusal) → holds_place (number_of why) ≡ false → number_of why ≡ first_refusal cs → Checked cs s (Err why)
 refuses {cs} {s} why h e = record { number = e; place = rw (← e) (only_held why h ∙ sym (other_place s (number_of why) (not_8 h))) }
 
 -- 8
-pub names : {s : List ℕ} {p : ℕ} → p ≡ lowest_bad s → p < length s → Checked (byte_checks s) s (Refused (BadByte p))
+pub names : {s : List ℕ} {p : ℕ} → p ≡ lowest_bad s → p < length s → Checked (byte_checks s) s (Err (BadByte p))
 names {s} {p} e l =
     let f : 8 ≡ first_refusal (byte_checks s) = bytes_fail s (omega arith) in
     record { number = f; place = rw (← f) (e ∙ sym (bad_place s)) }
@@ -256,23 +255,39 @@ placeless_number (check n false ∷ cs) h = not-true (holds_place n) (both_true 
 
 -- a refusal of the first group of checks, which names no place
 pub stops :
-    {cs : List Check} (ds : List Check) (s : List ℕ) {a : Answer} {why : Refusal} → placeless cs ≡ true → Checked cs [] a → a ≡ Refused why
-    → Checked (cs ++ ds) s (Refused why)
+    {cs : List Check} (ds : List Check) (s : List ℕ) {a : Answer} {why : Refusal} → placeless cs ≡ true → Checked cs [] a → a ≡ Err why
+    → Checked (cs ++ ds) s (Err why)
 stops {cs} ds s {a} {why} h c e =
     let n : number_of why ≡ first_refusal cs = ap answer_number (sym e) ∙ c.number in
     refuses why (ap holds_place n ∙ placeless_number cs h) (already cs ds (number_pos why) n)
 
+-- what `?` hands on
+pub err_is : {A E : Type 0} {r : Result A E} {e : E} → IsErrAnd r (λ y. y ≡ e) → r ≡ Err e
+err_is {r = r} i =
+    let p = err_from_is_err_and r i in
+    p.1 ∙ ap Err p.2
+
+-- the same, handed on by `?`
+pub handed :
+    {cs : List Check} (ds : List Check) (s : List ℕ) {a r : Answer} {why : Refusal} → placeless cs ≡ true → Checked cs [] a → a ≡ Err why
+    → IsErrAnd r (λ y. y ≡ why) → Checked (cs ++ ds) s r
+handed ds s h c e i = rw (err_is i) (stops ds s h c e)
+
 -- a refusal of any of the first group of checks, of the same input
-pub stops_at : {cs : List Check} (ds : List Check) {s : List ℕ} {a : Answer} {why : Refusal} → Checked cs s a → a ≡ Refused why → Checked (cs ++ ds) s (Refused why)
+pub stops_at : {cs : List Check} (ds : List Check) {s : List ℕ} {a : Answer} {why : Refusal} → Checked cs s a → a ≡ Err why → Checked (cs ++ ds) s (Err why)
 stops_at {cs} ds {s} {a} {why} c e =
     let n : first_refusal cs ≡ first_refusal (cs ++ ds) = already cs ds (omega (arith, number_pos why, ap answer_number e, c.number)) refl in
     record { number = ap answer_number (sym e) ∙ c.number ∙ n; place = ap answer_place (sym e) ∙ c.place ∙ ap (place_named s) n }
 
+-- checks that pass
+pub none_refused : {cs : List Check} {s : List ℕ} {a : Answer} → Checked cs s a → a ≡ Ok tt → first_refusal cs ≡ 0
+none_refused c e = sym (ap answer_number (sym e) ∙ c.number)
+
 -- the first group of checks passes
-pub goes_on : {cs : List Check} (ds : List Check) {s₀ s : List ℕ} {a b : Answer} → Numbered cs → Checked cs s₀ a → a ≡ Done → Checked ds s b → Checked (cs ++ ds) s b
+pub goes_on : {cs : List Check} (ds : List Check) {s₀ s : List ℕ} {a b : Answer} → Numbered cs → Checked cs s₀ a → a ≡ (Ok tt) → Checked ds s b → Checked (cs ++ ds) s b
 goes_on {cs} ds {s = s} t c e d =
     let n : first_refusal ds ≡ first_refusal (cs ++ ds) = then cs ds t (ap answer_number (sym e) ∙ c.number) refl in
     record { number = d.number ∙ n; place = d.place ∙ ap (place_named s) n }
 
-pub code_done : {m r : ℕ} {s : List ℕ} {a : Answer} → Checked (code_checks m r) s a → a ≡ Done → IsCode m r
-code_done {m} {r} c e = (code_passed m r [] (sym (ap answer_number (sym e) ∙ c.number))).0
+pub code_done : {m r : ℕ} {s : List ℕ} {a : Answer} → Checked (code_checks m r) s a → a ≡ (Ok tt) → IsCode m r
+code_done {m} {r} c e = (code_passed m r [] (none_refused c e)).0

@@ -1,11 +1,11 @@
 -- Document 01, "Refusals by who causes them": the numbers, and checks in order. Assumes nothing.
-use Rattle.std.specs.Prelude.{ℕ, ◌≡◌, Bool, cond, ◌||◌, List, [], ◌∷◌, length, leb, ltb, eqb}
+use Rattle.std.specs.Prelude.{Result, Ok, Err, ℕ, ◌≡◌, Bool, cond, ◌||◌, List, [], ◌∷◌, length, leb, ltb, eqb}
 use Rattle.words.specs.Sum.{all_below}
 use Rattle.words.specs.Word.{bit, lowest_bad}
 use Rattle.refusals.specs.declared.Refusal.{Refusal}
 use Rattle.refusals.specs.declared.Refusal.TheVariants.{Exponent, Order, RoundLimit, LeafLimit, InputLength, OutputLength, AreaLength, BadByte, Tie, Flipping, Unsettled, TooManyLeaves, NotCodeword, Profile, Header, Truncated, Erased, OutOfRange, TableFile, TableEntry, LoadStart, WrongPlaces, Meters, Retries, UnknownName, NamesFull, ArrayExponent, NotArray}
-use Rattle.refusals.specs.declared.Answer.{Answer}
-use Rattle.refusals.specs.declared.Answer.TheVariants.{Done, Refused}
+use Rattle.refusals.specs.declared.Accepted.{Accepted}
+use Rattle.refusals.specs.declared.Refused.{Refused}
 
 -- the document's number of each case
 abbrev pub number_of : Refusal → ℕ
@@ -69,15 +69,23 @@ place_of NamesFull = 0
 place_of ArrayExponent = 0
 place_of NotArray = 0
 
+-- what a call that gives nothing but its output answers
+abbrev pub Answer : Type 0
+Answer = Result Unit Refusal
+
+-- what a decoding answers
+abbrev pub Decoded : Type 0
+Decoded = Result Accepted Refused
+
 -- 0 where nothing is refused
 abbrev pub answer_number : Answer → ℕ
-answer_number Done = 0
-answer_number (Refused why) = number_of why
+answer_number (Ok tt) = 0
+answer_number (Err why) = number_of why
 
 -- 0 where nothing is refused
 abbrev pub answer_place : Answer → ℕ
-answer_place Done = 0
-answer_place (Refused why) = place_of why
+answer_place (Ok tt) = 0
+answer_place (Err why) = place_of why
 
 -- document 02, request 1: "8 names the smallest place whose byte is above 1": the place that an answer of this number to the input s names
 unfoldable pub place_named : List ℕ → ℕ → ℕ

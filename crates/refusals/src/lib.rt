@@ -5,7 +5,7 @@ ghost use Rattle.std.specs.Prelude.{◌≡◌};
 ghost use Rattle.refusals.specs.Refusals.{number_of, place_of};
 
 // Document 01, "Refusals by who causes them", and those of document 02, in the order of their numbers.
-#[derive(Clone, Copy)]
+#[derive(Clone, Copy, Debug, PartialEq, Eq)]
 pub enum Refusal {
     Exponent,
     Order,
@@ -44,18 +44,40 @@ pub enum Refusal {
     NotArray,
 }
 
-// What a call that gives nothing but its output answers.
-#[derive(Clone, Copy)]
-pub enum Answer {
-    Done,
-    Refused(Refusal),
+// What a decoding that accepts tells: its rounds, its leaf count and the places that it mended.
+#[derive(Clone, Copy, Debug, PartialEq, Eq)]
+pub struct Accepted {
+    pub rounds: usize,
+    pub leaves: usize,
+    pub mended: usize,
 }
 
-// What a decoding answers: its rounds and its leaf count, and where it accepts the places that it mended.
-#[derive(Clone, Copy)]
-pub enum Decoded {
-    Accepted(usize, usize, usize),
-    Refused(Refusal, usize, usize),
+// What a decoding that refuses tells: why, its rounds and its leaf count.
+#[derive(Clone, Copy, Debug, PartialEq, Eq)]
+pub struct Refused {
+    pub why: Refusal,
+    pub rounds: usize,
+    pub leaves: usize,
+}
+
+// "Rounds and leaf count returned: 0 and 0 for 1 to 8 and 14": a refusal before any reading.
+impl From<Refusal> for Refused {
+    ghost from_gives = { λ w e. e ≡ record { why = w; rounds = 0; leaves = 0 } };
+
+    fn from(why: Refusal) -> Refused {
+        Refused {
+            why,
+            rounds: 0,
+            leaves: 0,
+        }
+    }
+}
+
+// What two calls answer, of which one contract speaks.
+#[derive(Clone, Copy, Debug, PartialEq, Eq)]
+pub struct Both<T> {
+    pub first: T,
+    pub second: T,
 }
 
 // The document's number of a refusal.
@@ -99,33 +121,10 @@ pub fn place(why: Refusal) -> usize
     ensures { result ≡ place_of why }
 {
     match why {
-        Refusal::BadByte(p) => p,
-        Refusal::Erased(p) => p,
-        Refusal::OutOfRange(p) => p,
-        Refusal::TableEntry(i) => i,
-        Refusal::Exponent => 0,
-        Refusal::Order => 0,
-        Refusal::RoundLimit => 0,
-        Refusal::LeafLimit => 0,
-        Refusal::InputLength => 0,
-        Refusal::OutputLength => 0,
-        Refusal::AreaLength => 0,
-        Refusal::Tie => 0,
-        Refusal::Flipping => 0,
-        Refusal::Unsettled => 0,
-        Refusal::TooManyLeaves => 0,
-        Refusal::NotCodeword => 0,
-        Refusal::Profile => 0,
-        Refusal::Header => 0,
-        Refusal::Truncated => 0,
-        Refusal::TableFile => 0,
-        Refusal::LoadStart => 0,
-        Refusal::WrongPlaces => 0,
-        Refusal::Meters => 0,
-        Refusal::Retries => 0,
-        Refusal::UnknownName => 0,
-        Refusal::NamesFull => 0,
-        Refusal::ArrayExponent => 0,
-        Refusal::NotArray => 0,
+        Refusal::BadByte(p)
+        | Refusal::Erased(p)
+        | Refusal::OutOfRange(p)
+        | Refusal::TableEntry(p) => p,
+        _ => 0,
     }
 }

@@ -4,7 +4,7 @@ use mathlib.Core.Path.{sym, ap, ◌∙◌, subst}
 use mathlib.Core.List.{List}
 use lib.ListN.{length}
 use Rattle.words.specs.Word.{bit}
-use Rattle.refusals.specs.declared.Answer.{Answer}
+use Rattle.refusals.specs.Refusals.{Answer}
 use Rattle.refusals.specs.IsCode.{IsCode}
 use Rattle.code.specs.Code.{IsCodeword, codeword, message_of}
 use Rattle.code.proofs.Inverse.{encoder_codeword}

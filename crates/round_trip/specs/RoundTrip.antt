@@ -1,8 +1,7 @@
 -- The round trip of two calls: a message encoded and read, a codeword read and encoded. Assumes nothing.
-use Rattle.std.specs.Prelude.{ℕ, ◌^◌, ◌≤◌, ◌<◌, ◌≡◌, List, length}
+use Rattle.std.specs.Prelude.{ℕ, ◌^◌, ◌≤◌, ◌<◌, ◌≡◌, List, length, Ok}
 use Rattle.words.specs.Word.{bit}
-use Rattle.refusals.specs.declared.Answer.{Answer}
-use Rattle.refusals.specs.declared.Answer.TheVariants.{Done}
+use Rattle.refusals.specs.Refusals.{Answer}
 use Rattle.code.specs.Code.{dimension}
 
 -- "There are k message bits"
@@ -21,7 +20,7 @@ pub record Fit (m r : ℕ) (word message : List ℕ) : Type 0 where
 -- the answers a and a' to two calls, the second given the first one's output: neither refuses (13 neither), the first leaves x, and the
 -- second leaves s, which the first was given
 pub record Back (x s v v' : List ℕ) (a a' : Answer) : Type 0 where
-  pub first : a ≡ Done
-  pub second : a' ≡ Done
+  pub first : a ≡ (Ok tt)
+  pub second : a' ≡ (Ok tt)
   pub between : v ≡ x
   pub back : v' ≡ s

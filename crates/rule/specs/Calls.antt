@@ -1,20 +1,18 @@
 -- What a call of the decoder promises. Assumes nothing.
-use Rattle.std.specs.Prelude.{ℕ, ◌≡◌, List, ℤ}
-use Rattle.refusals.specs.Refusals.{number_of, place_of, place_named}
+use Rattle.std.specs.Prelude.{Ok, Err, ℕ, ◌≡◌, List, ℤ}
+use Rattle.refusals.specs.Refusals.{number_of, place_of, place_named, Decoded}
 use Rattle.rule.specs.Reading.{Outcome}
 use Rattle.rule.specs.Decoding.{Values, values, refusal_of, answer_of, output_of, area_of}
-use Rattle.refusals.specs.declared.Decoded.{Decoded}
-use Rattle.refusals.specs.declared.Decoded.TheVariants.{Accepted, Refused}
 
 -- the values of each case of the code's answer
 abbrev pub values_of : Decoded → Values
-values_of (Accepted k l c) = values 0 k l c
-values_of (Refused why k l) = values (number_of why) k l 0
+values_of (Ok d) = values 0 d.rounds d.leaves d.mended
+values_of (Err e) = values (number_of e.why) e.rounds e.leaves 0
 
 -- the place that it names, 0 where it names none
 abbrev pub decoded_place : Decoded → ℕ
-decoded_place (Accepted k l c) = 0
-decoded_place (Refused why k l) = place_of why
+decoded_place (Ok d) = 0
+decoded_place (Err e) = place_of e.why
 
 -- a call that the outcome o is the answer of, on a word of exponent m, which names the place p: its answer d, the output and the area
 -- before and after

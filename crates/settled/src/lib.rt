@@ -15,11 +15,7 @@ fn copy_on(area: &mut [i32], n: usize)
     requires { (n + n ≤ length area.old) × Bits n area.old }
     ensures { Written (pos 0) n n (at area.old) area.old area.new }
 {
-    let mut i = 0;
-    while i < n {
-        area[n + i] = area[i];
-        i += 1;
-    }
+    area.copy_within(0..n, n);
 }
 
 // Whether the bits at the masks of degree above r are 0.
@@ -28,8 +24,8 @@ fn is_low(r: usize, a: &[i32]) -> bool
     ensures { result ≡ low_test r (size_at a.now) (length a.now) }
 {
     let mut low = true;
-    for p in 0..a.len() {
-        low = low & ((degree(p) as usize <= r) | (a[p] == 0));
+    for (p, x) in a.iter().enumerate() {
+        low = low & ((usize::from(degree(p)) <= r) | (*x == 0));
     }
     low
 }

@@ -1,12 +1,10 @@
 // A street before the digging, for planners: settings as arguments, a line for each step as it is made, then the summary.
 #![tactic(auto)]
 
-use arguments::Given;
 use std::io::Write;
 use street_report::Counts;
 use street_settings::Settings;
 use turns::{Stream, sent};
-use walks::Next;
 
 mod arguments;
 mod complaints;
@@ -20,19 +18,16 @@ fn summarise<W: Write>(to: &mut Stream<W>, counts: Counts) {
 
 // Walks the street and prints the summary, or says why the settings are refused.
 fn run<W: Write>(rt: &impl Eprint, to: &mut Stream<W>, s: Settings) {
-    let w = walks::walk_street(s, to);
-    match w.next {
-        Next::Refused(why) => complaints::refused(rt, why),
-        Next::End => summarise(to, w.counts),
-        Next::Step => summarise(to, w.counts),
+    match walks::walk_street(s, to) {
+        Ok(counts) => summarise(to, counts),
+        Err(why) => complaints::refused(rt, why),
     }
 }
 
 fn main(rt: HostRuntime) {
     let mut to = Stream::new(rt.stdout());
     match arguments::read(&rt) {
-        Given::Settings(s) => run(&rt, &mut to, s),
-        Given::NotNumber(i) => complaints::not_number(&rt, i),
-        Given::TooMany(i) => complaints::too_many(&rt, i),
+        Ok(s) => run(&rt, &mut to, s),
+        Err(bad) => complaints::argument(&rt, bad),
     }
 }

@@ -4,16 +4,17 @@
 ghost use Rattle.std.specs.Prelude.{◌≡◌, ◌+◌, ◌≤◌, ◌++◌, length, eqb};
 ghost use Rattle.words.specs.Word.{indicator};
 ghost use Rattle.text.specs.Numbers.{decimal};
-ghost use Rattle.text.specs.Texts.{Appended};
+ghost use Rattle.text.specs.Texts.{Added};
 ghost use Rattle.pieces.specs.Pieces.{Puts};
 ghost use Rattle.streets.specs.State.{answered};
 ghost use Rattle.street_report.specs.Report.{answer_text, no_counts, plus_step, step_line, step_of, summary_line};
 
 use streets::Fate;
+use text::Writer;
 use turns::plus;
 
 // The blocks sent, those accepted right, accepted as another codeword and refused, and the meters never read.
-#[derive(Clone, Copy)]
+#[derive(Clone, Copy, Debug, PartialEq, Eq)]
 pub struct Counts {
     pub sent: u64,
     pub right: u64,
@@ -71,38 +72,37 @@ pub fn counted(c: Counts, retries: usize, attempt: usize, fate: Fate) -> Counts
 }
 
 // A space and the answer.
-fn put_answer(fate: Fate, out: &mut [u8], at: usize) -> usize
-    requires { at + 12 ≤ length out.old }
-    ensures { Appended out.old at (answer_text (answered fate)) result out.new × (result ≤ at + 12) }
+fn put_answer(w: &mut Writer, fate: Fate)
+    requires { w.old.at + 12 ≤ length w.old.out.now }
+    ensures text { Added (answer_text (answered fate)) w.old w.new }
+    ensures ends { w.new.at ≤ w.old.at + 12 }
 {
     match fate {
-        Fate::Right => text::put_text(b" right", out, at),
-        Fate::Other => text::put_text(b" other", out, at),
-        Fate::Refused(why) => {
-            let number = refusals::number(why);
-            lines::put_refusal(number, out, at)
-        }
+        Fate::Right => w.put_text(b" right"),
+        Fate::Other => w.put_text(b" other"),
+        Fate::Refused(why) => lines::put_refusal(w, refusals::number(why)),
     }
 }
 
 // A number, and the text after it.
-fn put_count(n: u64, after: &[u8], out: &mut [u8], at: usize) -> usize
-    requires { at + (20 + length after.now) ≤ length out.old }
-    ensures { Appended out.old at (decimal n ++ after.now) result out.new × (result ≤ at + (20 + length after.now)) }
+fn put_count(w: &mut Writer, n: u64, after: &[u8])
+    requires { w.old.at + (20 + length after.now) ≤ length w.old.out.now }
+    ensures text { Added (decimal n ++ after.now) w.old w.new }
+    ensures ends { w.new.at ≤ w.old.at + (20 + length after.now) }
 {
-    let a = text::put_decimal(n, out, at);
-    text::put_text(after, out, a)
+    w.put_decimal(n);
+    w.put_text(after);
 }
 
 // The line of a step, put after what the output holds already.
-fn put_step(meter: usize, attempt: usize, fate: Fate, out: &mut [u8], at: usize) -> usize
-    requires { at + 54 ≤ length out.old }
-    ensures { Appended out.old at (step_line (step_of meter attempt fate)) result out.new }
+fn put_step(w: &mut Writer, meter: usize, attempt: usize, fate: Fate)
+    requires { w.old.at + 54 ≤ length w.old.out.now }
+    ensures { Added (step_line (step_of meter attempt fate)) w.old w.new }
 {
-    let a = put_count(meter as u64, b" ", out, at);
-    let b = text::put_decimal(attempt as u64, out, a);
-    let c = put_answer(fate, out, b);
-    text::put_byte(10, out, c)
+    put_count(w, meter as u64, b" ");
+    w.put_decimal(attempt as u64);
+    put_answer(w, fate);
+    w.put_byte(10);
 }
 
 // The line of a step, in an output of at least 54 bytes. Answers its length.
@@ -112,20 +112,22 @@ pub fn step_line(meter: usize, attempt: usize, fate: Fate, out: &mut [u8]) -> us
     if out.len() < 54 {
         return 0;
     }
-    put_step(meter, attempt, fate, out, 0)
+    let mut w = Writer { out, at: 0 };
+    put_step(&mut w, meter, attempt, fate);
+    w.at
 }
 
 // The summary, put after what the output holds already.
-fn put_summary(c: Counts, out: &mut [u8], at: usize) -> usize
-    requires { at + 145 ≤ length out.old }
-    ensures { Appended out.old at (summary_line c) result out.new }
+fn put_summary(w: &mut Writer, c: Counts)
+    requires { w.old.at + 145 ≤ length w.old.out.now }
+    ensures { Added (summary_line c) w.old w.new }
 {
-    let a = put_count(c.sent, b" sent, ", out, at);
-    let b = put_count(c.right, b" right, ", out, a);
-    let d = put_count(c.other, b" other, ", out, b);
-    let e = put_count(c.refused, b" refused, ", out, d);
-    let f = put_count(c.never, b" never read", out, e);
-    text::put_byte(10, out, f)
+    put_count(w, c.sent, b" sent, ");
+    put_count(w, c.right, b" right, ");
+    put_count(w, c.other, b" other, ");
+    put_count(w, c.refused, b" refused, ");
+    put_count(w, c.never, b" never read");
+    w.put_byte(10);
 }
 
 // The summary, in an output of at least 145 bytes. Answers its length.
@@ -135,5 +137,7 @@ pub fn summary_line(c: Counts, out: &mut [u8]) -> usize
     if out.len() < 145 {
         return 0;
     }
-    put_summary(c, out, 0)
+    let mut w = Writer { out, at: 0 };
+    put_summary(&mut w, c);
+    w.at
 }

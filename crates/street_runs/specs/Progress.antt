@@ -1,10 +1,8 @@
 -- What the functions of a run ask and promise. Assumes nothing.
-use Rattle.std.specs.Prelude.{ℕ, suc, ◌+◌, ◌^◌, ◌≤◌, ◌<◌, ◌≡◌, true, false, List, ltb, ℤ, length}
+use Rattle.std.specs.Prelude.{ℕ, suc, ◌+◌, ◌^◌, ◌≤◌, ◌<◌, ◌≡◌, true, false, List, ltb, ℤ, length, Ok}
 use Rattle.words.specs.Word.{indicator}
-use Rattle.refusals.specs.Refusals.{first_refusal}
-use Rattle.refusals.specs.declared.Answer.{Answer}
-use Rattle.refusals.specs.declared.Answer.TheVariants.{Done}
-use Rattle.tables.specs.declared.Slot.{Slot}
+use Rattle.refusals.specs.Refusals.{first_refusal, Answer}
+use Rattle.tables.specs.Tables.{Slot}
 use Rattle.tables.specs.Slots.{Proper}
 use Rattle.streets.specs.Street.{Answered, is_other, is_refused, is_right, steps_after}
 use Rattle.streets.specs.State.{Showing, area_by, block_by, shows_none, refused, room_checks, sender_of, setting_checks, shows_by, step, street_by}
@@ -86,6 +84,6 @@ module _ (slot : Slot) (plan : Plan) where
     pub checks : first_refusal (run_checks slot plan start block area) ≡ 0
 
   pub record RunsOn (start budget : ℕ) (log log' block block' : List ℕ) (area area' : List ℤ) (a : Ran) : Type 0 where
-    pub done : a.answer ≡ Done
+    pub done : a.answer ≡ (Ok tt)
     pub steps : Made slot plan start (steps_after slot plan start budget) log log' block block' area area' a
     pub none_left : a.none_left ≡ ltb (length (steps_after slot plan start budget)) budget

@@ -1,9 +1,9 @@
 -- What request 10 asks of a run, from its contract: the counts add up, as many blocks were drawn as were sent, and a street ends. Assumes nothing.
 use Rattle.std.specs.Prelude.{ℕ, suc, ◌+◌, ◌*◌, ◌≤◌, ◌<◌, ◌≡◌, refl, true, List, ℤ, length}
 use Rattle.std.proofs.Common.{arith, sym, ap, ◌∙◌, eq-eqb, lt-ltb}
-use Rattle.tables.specs.declared.Slot.{Slot}
+use Rattle.tables.specs.Tables.{Slot}
 use Rattle.load.specs.Records.{state_at}
-use Rattle.streets.specs.Street.{Step, sender_after, steps_after}
+use Rattle.streets.specs.Street.{Nobody, Step, sender_after, steps_after}
 use Rattle.streets.specs.State.{sender_of, street_after}
 use Rattle.street_runs.specs.Run.{Runs, run_refusal, steps_made}
 use Rattle.street_runs.specs.RunLaws.{run_settled}
@@ -11,7 +11,6 @@ use Rattle.streets.specs.StreetLaws.{adds_up, ends, steps-length, steps_most, st
 use Rattle.streets.specs.declared.Plan.{Plan}
 use Rattle.street_runs.specs.declared.Ran.{Ran}
 use Rattle.streets.specs.declared.Street.{Street}
-use Rattle.streets.specs.declared.meters.Sender.TheVariants.{Nobody}
 
 module _ {slot : Slot} {plan : Plan} {start budget : ℕ} {log log' block block' : List ℕ} {area area' : List ℤ} {a : Ran}
     (r : Runs slot plan start budget log log' block block' area area' a) where

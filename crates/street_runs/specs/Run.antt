@@ -1,7 +1,7 @@
 -- Runs of a street from its start: so many steps at most, their log and counts. Assumes nothing.
 use Rattle.std.specs.Prelude.{ℕ, ◌+◌, ◌*◌, ◌≡◌, Bool, cond, ◌&&◌, List, [], ◌∷◌, ◌++◌, eqb, ltb, length, set, ℤ}
 use Rattle.refusals.specs.Refusals.{Check, answer_number, answer_place, first_refusal}
-use Rattle.tables.specs.declared.Slot.{Slot}
+use Rattle.tables.specs.Tables.{Slot, held}
 use Rattle.rule.specs.Decoding.{zeros}
 use Rattle.streets.specs.Street.{Answered, Step, block_of, load_at, other, other_in, refusal, refused_in, right, right_in, sent_in, steps_after}
 use Rattle.streets.specs.State.{room_checks, setting_checks, street_after}
@@ -34,7 +34,7 @@ module _ (slot : Slot) (plan : Plan) (start : ℕ) where
   -- "The block's buffer keeps the last block sent; where none is sent, it and the area stay."
   abbrev pub block_after : List ℕ → List Step → List ℕ
   block_after block [] = block
-  block_after block (s ∷ l) = block_of slot.profile plan.wrong (load_at slot plan start l)
+  block_after block (s ∷ l) = block_of (held slot) plan.wrong (load_at slot plan start l)
 
 abbrev pub area_after : List ℤ → List Step → List ℤ
 area_after area [] = area

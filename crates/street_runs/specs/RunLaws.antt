@@ -1,17 +1,15 @@
 -- A run, step by step: its log, a step more, and the loop. Assumes nothing.
-use Rattle.std.specs.Prelude.{ℕ, suc, ◌+◌, ◌*◌, ◌/◌, ◌^◌, ◌≤◌, ◌<◌, ◌≡◌, Bool, true, false, List, [], ◌∷◌, ◌++◌, eqb, ℤ, pos, length, set}
+use Rattle.std.specs.Prelude.{ℕ, suc, ◌+◌, ◌*◌, ◌/◌, ◌^◌, ◌≤◌, ◌<◌, ◌≡◌, Bool, true, false, List, [], ◌∷◌, ◌++◌, eqb, ℤ, pos, length, set, Some, None, Ok, Err}
 use Rattle.std.proofs.Common.{add_comm, add-one, arith, ◌∙◌, subst, eq-eqb, le-ltb, lt-ltb, ne_eqb}
 use Rattle.std.proofs.Math.Path.{refl, sym, ap}
 use Rattle.std.proofs.lemmas.Bool.{false≢true}
 use Rattle.std.proofs.Math.ListN.{replicate}
-use Rattle.refusals.specs.Refusals.{Check, Checked, check, first_refusal}
+use Rattle.refusals.specs.Refusals.{Check, Checked, check, first_refusal, Answer}
 use Rattle.refusals.proofs.CheckLaws.{number_pos, rest_passed}
-use Rattle.refusals.specs.declared.Answer.{Answer}
-use Rattle.refusals.specs.declared.Answer.TheVariants.{Done, Refused}
 use Rattle.refusals.specs.declared.Refusal.{Refusal}
-use Rattle.tables.specs.declared.Slot.{Slot}
+use Rattle.tables.specs.Tables.{Slot, held}
 use Rattle.load.specs.CallLaws.{nowhere}
-use Rattle.streets.specs.Street.{Step, block_of, count_steps, load_at, sender_after, steps_after, with_step}
+use Rattle.streets.specs.Street.{Meter, Sender, Step, block_of, count_steps, load_at, sender_after, steps_after, with_step}
 use Rattle.streets.specs.State.{Showing, Steps, area_by, begins, block_by, shows_none, refused, room_checks, sender_of, setting_checks, shows, shows_by, shown_as, step, street_by, answered, street_after}
 use Rattle.street_runs.specs.Run.{Made, Runs, answer_in, entered, logged, run_checks}
 use Rattle.street_runs.specs.Progress.{Goable, GoesOn, Runnable, RunsOn, counted_by, ended_by, log_by, ran_by, showing, unsent}
@@ -22,11 +20,8 @@ use Rattle.streets.specs.StreetLaws.{adds_up, settings_hold, sent_more, stays, s
 use Rattle.streets.specs.declared.Fate.{Fate}
 use Rattle.streets.specs.declared.Plan.{Plan}
 use Rattle.street_runs.specs.declared.Ran.{Ran}
-use Rattle.streets.specs.declared.Shown.TheVariants.{Sent}
 use Rattle.streets.specs.declared.Stepped.{Stepped}
 use Rattle.streets.specs.declared.Street.{Street}
-use Rattle.streets.specs.declared.meters.Sender.{Sender}
-use Rattle.streets.specs.declared.meters.Sender.TheVariants.{Nobody, Meter}
 
 -- ---- the log
 
@@ -72,8 +67,8 @@ module _ (slot : Slot) (plan : Plan) (ran : Ran) where
         k = settled slot plan s.state g.settings
 
         by : (w : Sender) → sender_of plan s ≡ w → step x ≡ shows_by slot plan s 0 w → (x.meter < 256) × (x.try < 16)
-        by Nobody q z = absurd (false≢true (sym (ap is_step z)))
-        by (Meter i t) q z =
+        by None q z = absurd (false≢true (sym (ap is_step z)))
+        by (Some v) q z =
             (omega (arith, k.few, sender_within plan s q, ap meter_in z), omega (arith, k.turns, sender_turn plan s q g.turns, ap try_in z))
 
   pub gone :
@@ -93,7 +88,7 @@ module _ (slot : Slot) (plan : Plan) (ran : Ran) where
 
   pub gone_sent :
       {log log' block block' : List ℕ} {area area' : List ℤ} {st : Stepped} {m t n : ℕ} {f : Fate} {a : Ran} → Goable slot plan ran (length block) (length area)
-      → Steps slot plan s block block' area area' st → st.shown ≡ Sent m t f → a ≡ counted_by ran (answered f) st.street → n ≡ answer_in (answered f)
+      → Steps slot plan s block block' area area' st → st.shown ≡ Ok (Some (record { meter = m; turn = t; fate = f })) → a ≡ counted_by ran (answered f) st.street → n ≡ answer_in (answered f)
       → log' ≡ entered ran.sent m t n log → GoesOn slot plan ran log log' block block' area area' a
   gone_sent g h e z q p = gone g h (ap shown_as e) z (p ∙ rw q)
 
@@ -161,7 +156,7 @@ module _ (slot : Slot) (plan : Plan) (start : ℕ) where
             sym (street_suc slot plan start (length l) ∙ ap (λ (t : Street). stepped slot plan start t (sender_of plan t)) (sym m.street)
             ∙ ap (stepped slot plan start now) who);
         log_is = rw (m.sent, state, m.log_is);
-        block_is = ap (λ (y : ℕ). block_of slot.profile plan.wrong y) state;
+        block_is = ap (λ (y : ℕ). block_of (held slot) plan.wrong y) state;
         area_is = ap (λ (n : ℕ). replicate n (pos 0)) lent;
       }
 
@@ -171,7 +166,7 @@ module _ (slot : Slot) (plan : Plan) (start budget : ℕ) where
   -- a run that has sent the first n blocks
   pub record Going (n : ℕ) (log log' block block' : List ℕ) (area area' : List ℤ) (ran : Ran) : Type 0 where
     pub within : n ≤ budget
-    pub done : ran.answer ≡ Done
+    pub done : ran.answer ≡ (Ok tt)
     pub more : ran.none_left ≡ false
     pub full : length (steps_after slot plan start n) ≡ n
     pub made : Made slot plan start (steps_after slot plan start n) log log' block block' area area' ran
@@ -179,9 +174,9 @@ module _ (slot : Slot) (plan : Plan) (start budget : ℕ) where
     pub size : length block' ≡ length block
     pub lent : length area' ≡ length area
 
-  pub going_first : {log block : List ℕ} {area : List ℤ} → Going 0 log log block block area area (unsent Done (begins start))
+  pub going_first : {log block : List ℕ} {area : List ℤ} → Going 0 log log block block area area (unsent (Ok tt) (begins start))
   unfolding steps_after
-  going_first = record { within = omega arith; done = refl; more = refl; full = refl; made = made_none slot plan start Done; long = refl; size = refl; lent = refl }
+  going_first = record { within = omega arith; done = refl; more = refl; full = refl; made = made_none slot plan start (Ok tt); long = refl; size = refl; lent = refl }
 
   module _ {n : ℕ} {log log' block block' : List ℕ} {area area' : List ℤ} {ran : Ran} (h : Runnable slot plan start (length block) (length area))
       (g : Going n log log' block block' area area' ran) where
@@ -233,8 +228,8 @@ module _ (slot : Slot) (plan : Plan) (start budget : ℕ) where
       going_ended t = go (sender_after plan (steps n)) refl
         where
           go : (w : Sender) → sender_after plan (steps n) ≡ w → RunsOn slot plan start budget log log'' block block'' area area'' a
-          go (Meter i k) e = absurd (false≢true (sym (ap (λ (r : Ran). r.none_left) (ran_by_lem e)) ∙ t))
-          go Nobody e =
+          go (Some v) e = absurd (false≢true (sym (ap (λ (r : Ran). r.none_left) (ran_by_lem e)) ∙ t))
+          go None e =
               let same : steps budget ≡ steps n = stays slot plan start n e budget (omega arith) in
               let x = by_who e in
               record {
@@ -250,8 +245,8 @@ module _ (slot : Slot) (plan : Plan) (start budget : ℕ) where
       going_more t p q u = subst (λ (j : ℕ). Going j log log'' block block'' area area'' a) (sym (add-one n)) (go (sender_after plan (steps n)) refl)
         where
           go : (w : Sender) → sender_after plan (steps n) ≡ w → Going (suc n) log log'' block block'' area area'' a
-          go Nobody e = absurd (false≢true (sym t ∙ ap (λ (r : Ran). r.none_left) (ran_by_lem e)))
-          go (Meter i k) e =
+          go None e = absurd (false≢true (sym t ∙ ap (λ (r : Ran). r.none_left) (ran_by_lem e)))
+          go (Some v) e =
               let x = by_who e in
               record {
                 within = omega arith;
@@ -261,7 +256,7 @@ module _ (slot : Slot) (plan : Plan) (start budget : ℕ) where
                 made =
                     made_by slot plan start (steps_suc slot plan start n ∙ ap (with_step slot plan start (steps n)) e) (o.log_is ∙ ap (log_by ran.sent log') x)
                     (o.block_is ∙ ap (block_by slot plan ran.street block') x) (o.area_is ∙ ap (area_by slot plan ran.street area') x) (ran_by_lem e)
-                    (made_more slot plan start g.made i k (who_is ∙ e) state_is g.lent);
+                    (made_more slot plan start g.made v.meter v.turn (who_is ∙ e) state_is g.lent);
                 long = p ∙ g.long;
                 size = q ∙ g.size;
                 lent = u ∙ g.lent;
@@ -271,12 +266,12 @@ module _ (slot : Slot) (plan : Plan) (start budget : ℕ) where
 
 module _ (slot : Slot) (plan : Plan) (start budget : ℕ) {log block : List ℕ} {area : List ℤ} where
   pub runs_refused :
-      (why : Refusal) {a : Ran} → Checked (run_checks slot plan start (length block) (length area)) [] (Refused why) → a ≡ unsent (Refused why) (begins start)
+      (why : Refusal) {a : Ran} → Checked (run_checks slot plan start (length block) (length area)) [] (Err why) → a ≡ unsent (Err why) (begins start)
       → Runs slot plan start budget log log block block area area a
   runs_refused why c e =
       let n : ℕ = first_refusal (run_checks slot plan start (length block) (length area)) in
       let some : eqb n 0 ≡ false = ne_eqb n 0 (λ (z : n ≡ 0). omega (arith, c.number, number_pos why)) in
-      rw e (record { answer = c.number; place = c.place ∙ nowhere n; steps = rw some (made_none slot plan start (Refused why)); none_left = rw some })
+      rw e (record { answer = c.number; place = c.place ∙ nowhere n; steps = rw some (made_none slot plan start (Err why)); none_left = rw some })
 
   pub runs_done :
       {log' block' : List ℕ} {area' : List ℤ} {a : Ran} → first_refusal (run_checks slot plan start (length block) (length area)) ≡ 0

@@ -5,10 +5,10 @@ ghost use Rattle.street_runs.specs.Run.{answer_in, entered};
 ghost use Rattle.street_runs.specs.Progress.{Countable, Goable, GoesOn, Runnable, RunsOn, counted_by, ended_by, more_by, unsent};
 
 use crate::Ran;
-use refusals::Answer;
+use profiles::Profile;
+use refusals::Refusal;
 use streets::street_steps::step_in;
-use streets::{Fate, Plan, Shown, Street};
-use tables::Slot;
+use streets::{Fate, Plan, Street};
 
 // An answer's number in the log.
 fn number(fate: Fate) -> u8
@@ -36,7 +36,7 @@ fn put(log: &mut [u32], i: usize, meter: usize, turn: usize, answer: u8)
 }
 
 // Before the first step.
-pub fn none_sent(answer: Answer, street: Street) -> Ran
+pub fn none_sent(answer: Result<(), Refusal>, street: Street) -> Ran
     ensures { result ≡ unsent answer street }
 {
     Ran {
@@ -98,7 +98,7 @@ fn ended(ran: Ran) -> Ran
 
 // One step more of a run that passed its checks: none is refused.
 fn go_on(
-    slot: Slot,
+    slot: Option<Profile>,
     plan: Plan,
     ran: Ran,
     log: &mut [u32],
@@ -109,20 +109,21 @@ fn go_on(
     ensures { GoesOn slot plan ran log.old log.new block.old block.new area.old area.new result }
 {
     let stepped = step_in(slot, plan, ran.street, block, area);
-    let shown = stepped.shown;
-    match shown {
-        Shown::Sent(meter, turn, fate) => {
-            put(log, ran.sent, meter, turn, number(fate));
-            counted(ran, fate, stepped.street)
-        }
-        Shown::NoneLeft => ended(ran),
-        Shown::Refused(_) => ran,
+    match stepped.shown {
+        Ok(shown) => match shown {
+            Some(sent) => {
+                put(log, ran.sent, sent.meter, sent.turn, number(sent.fate));
+                counted(ran, sent.fate, stepped.street)
+            }
+            None => ended(ran),
+        },
+        Err(_) => ran,
     }
 }
 
 // The steps of a run that passed its checks.
 pub fn run_steps(
-    slot: Slot,
+    slot: Option<Profile>,
     plan: Plan,
     start: u32,
     budget: usize,
@@ -133,14 +134,12 @@ pub fn run_steps(
     requires { Runnable slot plan start (length block.old) (length area.old) }
     ensures { RunsOn slot plan start budget log.old log.new block.old block.new area.old area.new result }
 {
-    let mut ran = none_sent(Answer::Done, streets::begin(start));
-    let mut i = 0;
-    while i < budget {
+    let mut ran = none_sent(Ok(()), streets::begin(start));
+    for _ in 0..budget {
         ran = go_on(slot, plan, ran, log, block, area);
         if ran.none_left {
             return ran;
         }
-        i += 1;
     }
     ran
 }

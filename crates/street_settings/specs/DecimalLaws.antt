@@ -1,5 +1,5 @@
 -- Every number below 2^32 can be given: written in decimal it is read as itself. Assumes nothing.
-use Rattle.std.specs.Prelude.{ℕ, zero, suc, ◌+◌, ◌-◌, ◌*◌, ◌/◌, ◌%◌, ◌^◌, ◌≤◌, ◌<◌, ◌≡◌, List, [], ◌∷◌, ◌++◌, length, get_or}
+use Rattle.std.specs.Prelude.{ℕ, zero, suc, ◌+◌, ◌-◌, ◌*◌, ◌/◌, ◌%◌, ◌^◌, ◌≤◌, ◌<◌, ◌≡◌, Some, List, [], ◌∷◌, ◌++◌, length, get_or}
 use Rattle.std.proofs.Common.{lt_of_lt_of_le, arith, sym, ◌∙◌, subst, lit≤, length-append, get_or-append-add, le-leb, lt-ltb}
 use Rattle.std.proofs.Math.Decide.{dec_lt}
 use Rattle.std.proofs.Math.Path.{ap, ap₂}
@@ -10,9 +10,8 @@ use Rattle.words.specs.SumLaws.{all_append, all_ext, all_more, all_none}
 use Rattle.words.specs.Word.{bit}
 use Rattle.text.specs.Numbers.{decimal}
 use Rattle.text.specs.TextLaws.{decimal_more, decimal_small}
-use Rattle.street_settings.specs.Settings.{all_digits, is_digit, number_in, value_of}
-use Rattle.street_settings.specs.SettingLaws.{a_number, value_more, value_none, value_suc}
-use Rattle.street_settings.specs.declared.Number.TheVariants.{Of}
+use Rattle.street_settings.specs.Settings.{all_digits, is_digit, kept32, number_in, value_of}
+use Rattle.street_settings.specs.SettingLaws.{a_number, kept_small, value_more, value_none, value_suc}
 
 -- ---- a text and one byte more
 
@@ -78,7 +77,7 @@ written (suc k) n h = elim (dec_lt n 10) [
   | no m ↦ subst (Written n) (sym (decimal_more n (omega arith))) (one_more n (decimal (n / 10)) (written k (n / 10) (omega arith)))
 ]
 
-pub reads_decimal : (n : ℕ) → n < 2 ^ 32 → number_in (decimal n) ≡ Of n
+pub reads_decimal : (n : ℕ) → n < 2 ^ 32 → number_in (decimal n) ≡ Some n
 reads_decimal n h =
     let w = written 9 n (lt_of_lt_of_le h (lit≤ tt)) in
-    sym (a_number (decimal n) w.some w.digits (omega (arith, w.value))) ∙ ap Of w.value
+    sym (a_number (decimal n) w.some w.digits) ∙ ap kept32 w.value ∙ kept_small n h

@@ -1,5 +1,4 @@
--- Definitions: Settings. What the inner functions promise: AtMost. SettingLaws and DecimalLaws have the laws.
+-- Definitions: Settings. SettingLaws and DecimalLaws have the laws.
 pub mod Settings
-pub mod AtMost
 pub mod SettingLaws
 pub mod DecimalLaws

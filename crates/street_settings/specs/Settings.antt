@@ -1,13 +1,11 @@
 -- The settings of a street from a program's arguments: up to five numbers, in the order profile, wrong places, meters, retries, start, and
 -- anywhere among them the word summary. Text is a list of bytes. Assumes nothing.
-use Rattle.std.specs.Prelude.{ℕ, zero, suc, ◌+◌, ◌-◌, ◌*◌, ◌^◌, Bool, true, false, cond, ◌&&◌, List, [], ◌∷◌, eqb, leb, ltb, length}
+use Rattle.std.specs.Prelude.{ℕ, zero, suc, ◌+◌, ◌-◌, ◌*◌, ◌^◌, Option, Some, None, Result, Ok, Err, Bool, true, false, cond, ◌&&◌, List, [], ◌∷◌, eqb, leb, ltb, length}
 use Rattle.words.specs.Sum.{all_below}
 use Rattle.words.specs.Word.{bit}
-use Rattle.street_settings.specs.declared.Argument.{Argument}
-use Rattle.street_settings.specs.declared.Argument.TheVariants.{Taken, NotNumber, TooMany}
 use Rattle.street_settings.specs.declared.Asked.{Asked}
-use Rattle.street_settings.specs.declared.Number.{Number}
-use Rattle.street_settings.specs.declared.Number.TheVariants.{Of, Bad}
+use Rattle.street_settings.specs.declared.Bad.{Bad}
+use Rattle.street_settings.specs.declared.Bad.TheVariants.{NotNumber, TooMany}
 use Rattle.street_settings.specs.declared.Settings.{Settings}
 
 -- where an argument is left out: profile 1, 3 wrong places, 100 meters, 3 retries, start 1, a line for each step before the summary
@@ -31,8 +29,12 @@ value_of s (suc k) = 10 * value_of s k + (bit s k - 48)
 unfoldable pub is_number : List ℕ → Bool
 is_number s = ltb 0 (length s) && all_digits s && ltb (value_of s (length s)) (2 ^ 32)
 
-unfoldable pub number_in : List ℕ → Number
-number_in s = cond (is_number s) (Of (value_of s (length s))) Bad
+unfoldable pub number_in : List ℕ → Option ℕ
+number_in s = cond (is_number s) (Some (value_of s (length s))) None
+
+-- a number below 2^32
+abbrev pub kept32 : ℕ → Option ℕ
+kept32 v = cond (ltb v (2 ^ 32)) (Some v) None
 
 -- ---- arguments
 
@@ -58,10 +60,10 @@ abbrev pub with_summary : Settings → Settings
 with_summary s = record { profile = s.profile; wrong = s.wrong; meters = s.meters; retries = s.retries; start = s.start; summary = true }
 
 -- a number after those so far: "up to five"
-abbrev pub asked_by : Asked → Number → Argument
-asked_by a Bad = NotNumber
-asked_by a (Of v) = cond (ltb 4 a.numbers) TooMany (Taken (record { settings = with_number a.settings a.numbers v; numbers = a.numbers + 1 }))
+abbrev pub asked_by : Asked → Option ℕ → Result Asked Bad
+asked_by a None = Err NotNumber
+asked_by a (Some v) = cond (ltb 4 a.numbers) (Err TooMany) (Ok (record { settings = with_number a.settings a.numbers v; numbers = a.numbers + 1 }))
 
 -- what the arguments ask with one more
-unfoldable pub asked : Asked → List ℕ → Argument
-asked a s = cond (is_summary s) (Taken (record { settings = with_summary a.settings; numbers = a.numbers })) (asked_by a (number_in s))
+unfoldable pub asked : Asked → List ℕ → Result Asked Bad
+asked a s = cond (is_summary s) (Ok (record { settings = with_summary a.settings; numbers = a.numbers })) (asked_by a (number_in s))

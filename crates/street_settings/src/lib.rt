@@ -2,14 +2,12 @@
 #![tactic(auto)]
 
 ghost use Rattle.std.specs.Prelude.{◌≡◌, true, ◌<◌, length};
-ghost use Rattle.words.specs.Sum.{all_below};
-ghost use Rattle.words.specs.Word.{bit};
-ghost use Rattle.street_settings.specs.AtMost.{at_most32};
-ghost use Rattle.street_settings.specs.Settings.{all_digits, asked, defaults, is_digit, number_in, same_bytes, value_of, with_number};
+ghost use Rattle.std.specs.List.{list_all};
+ghost use Rattle.street_settings.specs.Settings.{all_digits, asked, defaults, is_digit, kept32, number_in, value_of, with_number};
 
 // What a planner tries: the profile, the wrong places asked in a block, the meters, their retries, the load's start; and whether the summary
 // alone is to be printed.
-#[derive(Clone, Copy)]
+#[derive(Clone, Copy, Debug, PartialEq, Eq)]
 pub struct Settings {
     pub profile: usize,
     pub wrong: usize,
@@ -20,25 +18,17 @@ pub struct Settings {
 }
 
 // What the arguments so far ask, and how many of them were numbers.
-#[derive(Clone, Copy)]
+#[derive(Clone, Copy, Debug, PartialEq, Eq)]
 pub struct Asked {
     pub settings: Settings,
     pub numbers: usize,
 }
 
-// What an argument says.
-#[derive(Clone, Copy)]
-pub enum Argument {
-    Taken(Asked),
+// Why an argument says nothing.
+#[derive(Clone, Copy, Debug, PartialEq, Eq)]
+pub enum Bad {
     NotNumber,
     TooMany,
-}
-
-// What a text says.
-#[derive(Clone, Copy)]
-pub enum Number {
-    Of(u32),
-    Bad,
 }
 
 // Before the first argument.
@@ -68,112 +58,78 @@ fn is_digit(b: u8) -> bool
 }
 
 fn all_digits(s: &[u8]) -> bool
-    ensures { result ≡ all_digits s.now }
+    ensures { result ≡ list_all is_digit s.now }
 {
-    let mut all = true;
-    for p in 0..s.len() {
-        all = all & is_digit(s[p]);
-    }
-    all
+    s.iter().all(|b| is_digit(*b))
 }
 
-// The number that digits say; 2^32 where it is that or above.
-fn value(s: &[u8]) -> u64
+// The number that digits say, where it is below 2^32.
+fn value(s: &[u8]) -> Option<u32>
     requires { all_digits s.now ≡ true }
-    ensures { result ≡ at_most32 (value_of s.now (length s.now)) }
+    ensures { result ≡ kept32 (value_of s.now (length s.now)) }
 {
-    let mut v = 0u64;
-    for p in 0..s.len() {
-        v = 10 * v + (s[p] - 48) as u64;
-        if 4294967295 < v {
-            return 4294967296;
-        }
+    let mut v = 0u32;
+    for b in s {
+        v = v.checked_mul(10)?.checked_add(u32::from(*b - 48))?;
     }
-    v
+    Some(v)
 }
 
-fn read_number(s: &[u8]) -> Number
+fn read_number(s: &[u8]) -> Option<u32>
     ensures { result ≡ number_in s.now }
 {
     if s.len() == 0 {
-        return Number::Bad;
+        return None;
     }
     if !all_digits(s) {
-        return Number::Bad;
+        return None;
     }
-    let v = value(s);
-    if 4294967295 < v {
-        return Number::Bad;
-    }
-    Number::Of(v as u32)
+    value(s)
 }
 
-fn same_bytes(a: &[u8], b: &[u8]) -> bool
-    ensures { result ≡ same_bytes a.now b.now }
-{
-    if a.len() != b.len() {
-        return false;
-    }
-    let mut same = true;
-    for p in 0..a.len() {
-        same = same & (a[p] == b[p]);
-    }
-    same
-}
-
-// The settings with this number in its place.
+// The settings with this number in its place, which is how many numbers stood before it.
 fn with_number(s: Settings, place: usize, v: u32) -> Settings
     requires { place < 5 }
     ensures { result ≡ with_number s place v }
 {
-    if place == 0 {
-        return Settings {
+    match place {
+        0 => Settings {
             profile: v as usize,
             ..s
-        };
-    }
-    if place == 1 {
-        return Settings {
+        },
+        1 => Settings {
             wrong: v as usize,
             ..s
-        };
-    }
-    if place == 2 {
-        return Settings {
+        },
+        2 => Settings {
             meters: v as usize,
             ..s
-        };
-    }
-    if place == 3 {
-        return Settings {
+        },
+        3 => Settings {
             retries: v as usize,
             ..s
-        };
+        },
+        _ => Settings { start: v, ..s },
     }
-    Settings { start: v, ..s }
 }
 
 // What the arguments ask with this one after those so far.
-pub fn take(so_far: Asked, text: &[u8]) -> Argument
+pub fn take(so_far: Asked, text: &[u8]) -> Result<Asked, Bad>
     ensures { result ≡ asked so_far text.now }
 {
     let s = so_far.settings;
-    if same_bytes(text, b"summary") {
-        return Argument::Taken(Asked {
+    if text == b"summary".as_slice() {
+        return Ok(Asked {
             settings: Settings { summary: true, ..s },
-            numbers: so_far.numbers,
+            ..so_far
         });
     }
-    match read_number(text) {
-        Number::Bad => Argument::NotNumber,
-        Number::Of(v) => {
-            if 4 < so_far.numbers {
-                return Argument::TooMany;
-            }
-            Argument::Taken(Asked {
-                settings: with_number(s, so_far.numbers, v),
-                numbers: so_far.numbers + 1,
-            })
-        }
+    let v = read_number(text).ok_or(Bad::NotNumber)?;
+    if 4 < so_far.numbers {
+        return Err(Bad::TooMany);
     }
+    Ok(Asked {
+        settings: with_number(s, so_far.numbers, v),
+        numbers: so_far.numbers + 1,
+    })
 }

@@ -1,12 +1,11 @@
 -- The checks of a street: each return of the code, and what they make sure of. Assumes nothing.
-use Rattle.std.specs.Prelude.{ℕ, ◌*◌, ◌≤◌, ◌<◌, ◌≡◌, refl, ◌≢◌, true, not, []}
+use Rattle.std.specs.Prelude.{ℕ, ◌*◌, ◌≤◌, ◌<◌, ◌≡◌, refl, ◌≢◌, true, not, [], Ok, Err}
 use Rattle.std.proofs.Common.{sym, ap, eq-eqb, eqb-true, le-leb, leb-true, ne_eqb}
 use Rattle.std.proofs.lemmas.Bool.{eqb-false, lt-leb, not-true}
 use Rattle.refusals.specs.Refusals.{Checked, first_refusal}
 use Rattle.refusals.proofs.CheckLaws.{all_pass, fails, no_more, passed, passes, refuses}
-use Rattle.refusals.specs.declared.Answer.TheVariants.{Done, Refused}
 use Rattle.refusals.specs.declared.Refusal.TheVariants.{AreaLength, Meters, OutputLength, Retries}
-use Rattle.tables.specs.declared.Slot.{Slot}
+use Rattle.tables.specs.Tables.{Slot, is_there}
 use Rattle.capture.specs.Capture.{word_size}
 use Rattle.streets.specs.State.{plan_checks, room_checks, setting_checks}
 use Rattle.streets.specs.declared.Plan.{Plan}
@@ -14,19 +13,19 @@ use Rattle.streets.specs.declared.Plan.{Plan}
 -- ---- 23 and 24
 
 module _ (plan : Plan) where
-  pub no_meter : plan.meters < 1 → Checked (plan_checks plan) [] (Refused Meters)
+  pub no_meter : plan.meters < 1 → Checked (plan_checks plan) [] (Err Meters)
   no_meter h = refuses Meters refl (fails 23 _ _ (lt-leb 1 plan.meters h))
 
   module _ (some : 1 ≤ plan.meters) where
-    pub many_meters : 256 < plan.meters → Checked (plan_checks plan) [] (Refused Meters)
+    pub many_meters : 256 < plan.meters → Checked (plan_checks plan) [] (Err Meters)
     many_meters h = refuses Meters refl (passes 23 _ _ (le-leb 1 plan.meters some) (fails 23 _ _ (lt-leb plan.meters 256 h)))
 
     module _ (few : plan.meters ≤ 256) where
-      pub many_retries : 15 < plan.retries → Checked (plan_checks plan) [] (Refused Retries)
+      pub many_retries : 15 < plan.retries → Checked (plan_checks plan) [] (Err Retries)
       many_retries h = refuses Retries refl
           (passes 23 _ _ (le-leb 1 plan.meters some) (passes 23 _ _ (le-leb plan.meters 256 few) (fails 24 _ _ (lt-leb plan.retries 15 h))))
 
-      pub plan_passes : plan.retries ≤ 15 → Checked (plan_checks plan) [] Done
+      pub plan_passes : plan.retries ≤ 15 → Checked (plan_checks plan) [] (Ok tt)
       plan_passes h = all_pass
           (passes 23 _ _ (le-leb 1 plan.meters some)
           (passes 23 _ _ (le-leb plan.meters 256 few) (passes 24 _ _ (le-leb plan.retries 15 h) no_more)))
@@ -34,14 +33,14 @@ module _ (plan : Plan) where
 -- ---- 6 and 7
 
 module _ (slot : Slot) (room area : ℕ) where
-  pub other_length : room ≢ word_size slot → Checked (room_checks slot room area) [] (Refused OutputLength)
+  pub other_length : room ≢ word_size slot → Checked (room_checks slot room area) [] (Err OutputLength)
   other_length h = refuses OutputLength refl (fails 6 _ _ (ne_eqb room (word_size slot) h))
 
   module _ (size : room ≡ word_size slot) where
-    pub small_area : area < 8 * word_size slot → Checked (room_checks slot room area) [] (Refused AreaLength)
+    pub small_area : area < 8 * word_size slot → Checked (room_checks slot room area) [] (Err AreaLength)
     small_area h = refuses AreaLength refl (passes 6 _ _ (eq-eqb room (word_size slot) size) (fails 7 _ _ (lt-leb (8 * word_size slot) area h)))
 
-    pub room_passes : 8 * word_size slot ≤ area → Checked (room_checks slot room area) [] Done
+    pub room_passes : 8 * word_size slot ≤ area → Checked (room_checks slot room area) [] (Ok tt)
     room_passes h = all_pass (passes 6 _ _ (eq-eqb room (word_size slot) size) (passes 7 _ _ (le-leb (8 * word_size slot) area h) no_more))
 
 -- ---- what they make sure of
@@ -50,7 +49,7 @@ pub record Settled (slot : Slot) (plan : Plan) (x : ℕ) : Type 0 where
   pub some : 1 ≤ plan.meters
   pub few : plan.meters ≤ 256
   pub turns : plan.retries ≤ 15
-  pub known : slot.known ≡ true
+  pub known : is_there slot ≡ true
   pub start : x ≢ 0
 
 pub settled : (slot : Slot) (plan : Plan) (x : ℕ) → first_refusal (setting_checks slot plan x) ≡ 0 → Settled slot plan x

@@ -1,5 +1,6 @@
 -- Who sends next, by the street: the code's search and its returns. Assumes nothing.
-use Rattle.std.specs.Prelude.{ℕ, ◌+◌, ◌≤◌, ◌<◌, ◌≡◌, Bool, true, false, not, List, eqb, leb}
+use Rattle.streets.specs.Street.{Meter, Nobody}
+use Rattle.std.specs.Prelude.{ℕ, ◌+◌, ◌≤◌, ◌<◌, ◌≡◌, Bool, true, false, not, List, eqb, leb, Option, Some, None}
 use Rattle.std.proofs.Math.Numerals.{add-one}
 use Rattle.std.proofs.Common.{arith, ◌∙◌}
 use borrow.Author.Tests.{le-leb, le-ltb, leb-true, lt-leb, lt-ltb}
@@ -9,7 +10,6 @@ use Rattle.words.specs.Word.{bit}
 use Rattle.streets.specs.State.{next_due, sender_of, waits_from}
 use Rattle.streets.specs.declared.Plan.{Plan}
 use Rattle.streets.specs.declared.Street.{Street}
-use Rattle.streets.specs.declared.meters.Sender.TheVariants.{Nobody, Meter}
 
 pub before_from : (d from i : ℕ) → i < from → false ≡ waits_from d from i
 unfolding waits_from
@@ -48,6 +48,21 @@ module _ (due : List ℕ) (meters from : ℕ) where
     pub due_stands : w < meters → (from ≤ w) × (is_due due w ≡ true)
     unfolding waits_from
     due_stands l = let b = both_true (leb from w) (is_due due w) (h.found l) in (leb-true from w b.0, b.1)
+
+some_is : {i j : ℕ} → Some i ≡ Some j → i ≡ j
+some_is e = cc
+
+-- what the code's search gives: the first that is to send, or none
+pub record Found (due : List ℕ) (meters from : ℕ) (a : Option ℕ) : Type 0 where
+  pub first : (i : ℕ) → a ≡ Some i → (i ≡ next_due due meters from) × (i < meters)
+  pub none : a ≡ None → meters ≤ next_due due meters from
+
+module _ (due : List ℕ) (meters from : ℕ) where
+  pub due_found : {i : ℕ} → Due due meters from i → i < meters → Found due meters from (Some i)
+  due_found {i} h l = record { first = λ j e. rw (← some_is e) (due_is due meters from h, l); none = λ e. absurd (cc) }
+
+  pub due_missing : Due due meters from meters → Found due meters from None
+  due_missing h = record { first = λ j e. absurd (cc); none = λ e. omega (arith, due_is due meters from h) }
 
 -- ---- who sends
 

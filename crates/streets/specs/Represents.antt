@@ -1,20 +1,18 @@
 -- The street that the code keeps says what the list of steps does: it is so at the start, and a step keeps it. Assumes nothing.
-use Rattle.std.specs.Prelude.{ℕ, zero, suc, ◌≤◌, ◌<◌, ◌≡◌, true, false, List, []}
+use Rattle.std.specs.Prelude.{ℕ, zero, suc, ◌≤◌, ◌<◌, ◌≡◌, true, false, List, [], Some, None}
 use Rattle.std.proofs.Math.Decide.{dec_lt, le_ind}
 use Rattle.std.proofs.Common.{add-one, arith, sym, ap, ◌∙◌}
 use Rattle.std.proofs.Math.Path.{refl}
 use Rattle.std.proofs.Math.ListN.{length, length-replicate, length-set}
-use Rattle.tables.specs.declared.Slot.{Slot}
+use Rattle.tables.specs.Tables.{Slot, held}
 use Rattle.load.specs.Load.{state_before}
-use Rattle.streets.specs.Street.{Step, answer_to, load_at, sender_after, steps_after, waits_in, with_step}
+use Rattle.streets.specs.Street.{Meter, Nobody, Sender, Step, answer_to, load_at, sender_after, steps_after, waits_in, with_step}
 use Rattle.streets.specs.State.{begins, next_due, sender_of, shows_by, street_by, street_after}
 use Rattle.streets.specs.MeterLaws.{Due, due_first, due_none, due_skips, due_stands, is_due, last_turn, none_refused, sends_again, sends_now}
 use Rattle.streets.specs.Standing.{Stands, meter_now, nobody_left, sent_in_turn, stands_first, turn_over}
 use Rattle.streets.specs.Bounds.{Bounded, bounded_first, bounded_over, bounded_sent}
 use Rattle.streets.specs.declared.Plan.{Plan}
 use Rattle.streets.specs.declared.Street.{Street}
-use Rattle.streets.specs.declared.meters.Sender.{Sender}
-use Rattle.streets.specs.declared.meters.Sender.TheVariants.{Nobody, Meter}
 
 module _ (slot : Slot) (plan : Plan) (start : ℕ) where
   pub record Represents (l : List Step) (s : Street) : Type 0 where
@@ -40,8 +38,8 @@ module _ (slot : Slot) (plan : Plan) (start : ℕ) where
 
   -- the sender is to send
   abbrev pub DueIn : Street → Sender → Type 0
-  DueIn s Nobody = Unit {0}
-  DueIn s (Meter i k) = is_due s.due i ≡ true
+  DueIn s None = Unit {0}
+  DueIn s (Some v) = is_due s.due v.meter ≡ true
 
   -- who sends next by the street is who does by the list, and the street after it says what the list after it does
   pub record Goes (l : List Step) (s : Street) (w : Sender) : Type 0 where
@@ -65,7 +63,7 @@ module _ (slot : Slot) (plan : Plan) (start : ℕ) where
       unfolding with_step state_before
       sends =
           let (from, is) = due_stands due plan.meters at first m in
-          let x : Step = record { meter = w; try = turn; answer = answer_to slot.profile plan.wrong (load_at slot plan start l) } in
+          let x : Step = record { meter = w; try = turn; answer = answer_to (held slot) plan.wrong (load_at slot plan start l) } in
           let room : w < length due = omega (arith, r.size) in
           rw r.state
           (record {

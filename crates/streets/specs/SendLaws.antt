@@ -1,16 +1,15 @@
 -- A block drawn, decoded and compared with what was sent. Assumes nothing.
-use Rattle.std.specs.Prelude.{ℕ, ◌-◌, ◌^◌, ◌≤◌, ◌≡◌, ◌≢◌, List, ℤ, drop, length, replicate, take}
+use Rattle.std.specs.Prelude.{ℕ, ◌-◌, ◌^◌, ◌≤◌, ◌≡◌, ◌≢◌, List, ℤ, drop, length, replicate, take, Ok, Err}
 use Rattle.std.proofs.Math.Decide.{dec_lt}
 use Rattle.std.proofs.Common.{arith, ap, ◌∙◌, pow_mono, get_or-take, ne_eqb}
 use Rattle.std.proofs.lemmas.List.{get_or-replicate, length-replicate}
 use Rattle.std.proofs.Math.ListN.{get_or-eq_default}
 use Rattle.words.specs.Parts.{front_length}
 use Rattle.words.specs.Word.{IsWord, bit, distance}
-use Rattle.refusals.specs.Refusals.{number_of}
+use Rattle.refusals.specs.Refusals.{number_of, Decoded}
 use Rattle.refusals.proofs.CheckLaws.{number_pos}
-use Rattle.refusals.specs.declared.Decoded.{Decoded}
-use Rattle.refusals.specs.declared.Decoded.TheVariants.{Accepted, Refused}
-use Rattle.refusals.specs.declared.Refusal.{Refusal}
+use Rattle.refusals.specs.declared.Accepted.{Accepted}
+use Rattle.refusals.specs.declared.Refused.{Refused}
 use Rattle.profiles.specs.declared.Profile.{Profile}
 use Rattle.rule.specs.Reading.{Outcome, accepted, refused}
 use Rattle.rule.specs.Calls.{Decodes, values_of}
@@ -30,14 +29,14 @@ use Rattle.streets.specs.declared.Fate.{Fate}
 -- ---- the code's returns
 
 module _ (m : ℕ) (sent got : List ℕ) {d : Decoded} where
-  module _ {k l c n : ℕ} (e : d ≡ Accepted k l c) (s : n ≡ distance m sent got) where
+  module _ {x : Accepted} {n : ℕ} (e : d ≡ Ok x) (s : n ≡ distance m sent got) where
     pub right_is : n ≡ 0 → right ≡ judged_by m sent got d
     right_is h = rw (e, ← s, h)
 
     pub other_is : n ≢ 0 → other ≡ judged_by m sent got d
     other_is h = rw (e, ← s, ne_eqb n 0 h)
 
-  pub refused_is : {why : Refusal} {k l : ℕ} → d ≡ Refused why k l → refusal (number_of why) ≡ judged_by m sent got d
+  pub refused_is : {x : Refused} → d ≡ Err x → refusal (number_of x.why) ≡ judged_by m sent got d
   refused_is e = rw e
 
 -- ---- buffers of its own
@@ -62,10 +61,10 @@ module _ (p : Profile) {block : List ℕ} {area : List ℤ} (h : Sendable p bloc
 
 answer_of_lem : (m r : ℕ) (sent word got got' : List ℕ) (d : Decoded) (o : Outcome) → Sound m r o → values_of d ≡ answer_of m word o → got' ≡ output_of o got
     → judged_by m sent got' d ≡ judged m sent o
-answer_of_lem m r sent word got got' (Accepted k l c) (accepted w i j) h s g = rw g
-answer_of_lem m r sent word got got' (Accepted k l c) (refused e i j) h s g = absurd (omega (arith, ap number_in s))
-answer_of_lem m r sent word got got' (Refused why k l) (accepted w i j) h s g = absurd (omega (arith, ap number_in s, number_pos why))
-answer_of_lem m r sent word got got' (Refused why k l) (refused e i j) h s g = ap refusal (ap number_in s)
+answer_of_lem m r sent word got got' (Ok x) (accepted w i j) h s g = rw g
+answer_of_lem m r sent word got got' (Ok x) (refused e i j) h s g = absurd (omega (arith, ap number_in s))
+answer_of_lem m r sent word got got' (Err x) (accepted w i j) h s g = absurd (omega (arith, ap number_in s, number_pos x.why))
+answer_of_lem m r sent word got got' (Err x) (refused e i j) h s g = ap refusal (ap number_in s)
 
 word_of : (m r : ℕ) (got : List ℕ) (o : Outcome) → IsWord m got → Sound m r o → IsWord m (output_of o got)
 word_of m r got (accepted d k l) h s = s.word

@@ -1,9 +1,7 @@
 -- What the functions that send a block ask and promise. Assumes nothing.
-use Rattle.std.specs.Prelude.{ℕ, ◌*◌, ◌^◌, ◌≤◌, ◌≡◌, cond, List, eqb, length, ℤ}
+use Rattle.std.specs.Prelude.{ℕ, ◌*◌, ◌^◌, ◌≤◌, ◌≡◌, cond, List, eqb, length, ℤ, Ok, Err}
 use Rattle.words.specs.Word.{IsWord, distance}
-use Rattle.refusals.specs.Refusals.{number_of}
-use Rattle.refusals.specs.declared.Decoded.{Decoded}
-use Rattle.refusals.specs.declared.Decoded.TheVariants.{Accepted, Refused}
+use Rattle.refusals.specs.Refusals.{number_of, Decoded}
 use Rattle.profiles.specs.declared.Profile.{Profile}
 use Rattle.tables.specs.Limits.{InLimits}
 use Rattle.rule.specs.Decoding.{zeros}
@@ -14,8 +12,8 @@ use Rattle.streets.specs.declared.sends.Sending.{Sending}
 
 -- what the code makes of the decoder's answer, and of the word that it gave
 abbrev pub judged_by : ℕ → List ℕ → List ℕ → Decoded → Answered
-judged_by m sent got (Accepted k l c) = cond (eqb (distance m sent got) 0) right other
-judged_by m sent got (Refused why k l) = refusal (number_of why)
+judged_by m sent got (Ok d) = cond (eqb (distance m sent got) 0) right other
+judged_by m sent got (Err e) = refusal (number_of e.why)
 
 -- an entry's block in buffers of the right sizes
 pub record Sendable (p : Profile) (block : List ℕ) (area : List ℤ) : Type 0 where

@@ -10,11 +10,10 @@ use Rattle.words.specs.Search.{first_where_lem}
 use Rattle.words.specs.Sum.{first_where}
 use Rattle.words.specs.SumLaws.{le_or_lt}
 use Rattle.words.specs.Word.{indicator}
-use Rattle.streets.specs.Street.{Step, is_refused, meter_in, refused_at, sends_in, sender_after, sent_at, some_step, turn_now, waits_in}
+use Rattle.streets.specs.Street.{Meter, Nobody, Step, is_refused, meter_in, refused_at, sender_after, sends_in, sent_at, some_step, turn_now, waits_in}
 use Rattle.streets.specs.MeterLaws.{Due, due_skips, due_stands, is_due}
 use Rattle.streets.specs.StepList.{not_refused, other_meter, other_turn, refused_here, same_sends, same_waits, sent_here}
 use Rattle.streets.specs.declared.Plan.{Plan}
-use Rattle.streets.specs.declared.meters.Sender.TheVariants.{Nobody, Meter}
 
 -- ---- the array after a step
 

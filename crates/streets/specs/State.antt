@@ -1,22 +1,20 @@
 -- A street between two steps, and what a call for a step answers and leaves, for any street given: document 02, request 10. Assumes nothing.
-use Rattle.std.specs.Prelude.{ℕ, zero, suc, ◌*◌, ◌≡◌, Bool, cond, not, ◌&&◌, List, [], ◌∷◌, ◌++◌, eqb, leb, ltb, length, replicate, set, ℤ}
+use Rattle.std.specs.Prelude.{ℕ, zero, suc, ◌*◌, ◌≡◌, Bool, cond, not, ◌&&◌, List, [], ◌∷◌, ◌++◌, eqb, leb, ltb, length, replicate, set, ℤ, Option, Some, None, Result, Ok, Err}
 use Rattle.words.specs.Sum.{first_where}
 use Rattle.words.specs.Word.{bit, indicator}
 use Rattle.refusals.specs.Refusals.{Check, check, first_refusal, number_of}
-use Rattle.tables.specs.declared.Slot.{Slot}
+use Rattle.refusals.specs.declared.Refusal.{Refusal}
+use Rattle.tables.specs.Tables.{Slot, held}
 use Rattle.capture.specs.Capture.{word_size}
 use Rattle.rule.specs.Decoding.{zeros}
 use Rattle.load.specs.Load.{start_checks, state_after}
-use Rattle.streets.specs.Street.{Answered, Step, answer_to, block_of, is_refused, other, refusal, right}
+use Rattle.streets.specs.Street.{Answered, Meter, Nobody, Sender, Step, answer_to, block_of, is_refused, other, refusal, right}
 use Rattle.streets.specs.declared.Fate.{Fate}
 use Rattle.streets.specs.declared.Fate.TheVariants as fate
 use Rattle.streets.specs.declared.Plan.{Plan}
-use Rattle.streets.specs.declared.Shown.{Shown}
-use Rattle.streets.specs.declared.Shown.TheVariants as code
+use Rattle.streets.specs.declared.Sent.{Sent}
 use Rattle.streets.specs.declared.Stepped.{Stepped}
 use Rattle.streets.specs.declared.Street.{Street}
-use Rattle.streets.specs.declared.meters.Sender.{Sender}
-use Rattle.streets.specs.declared.meters.Sender.TheVariants.{Nobody, Meter}
 
 -- before the first step every meter is to send
 abbrev pub begins : ℕ → Street
@@ -63,8 +61,8 @@ pub data Showing : Type 0 where
 module _ (slot : Slot) (plan : Plan) (s : Street) where
   -- with the number of the buffers' refusal; "With no meter left to send, a step answers that none is left": it asks for no buffer
   abbrev pub shows_by : ℕ → Sender → Showing
-  shows_by number Nobody = shows_none
-  shows_by number (Meter i k) = cond (eqb number 0) (step (record { meter = i; try = k; answer = answer_to slot.profile plan.wrong s.state })) (refused number)
+  shows_by number None = shows_none
+  shows_by number (Some v) = cond (eqb number 0) (step (record { meter = v.meter; try = v.turn; answer = answer_to (held slot) plan.wrong s.state })) (refused number)
 
   unfoldable pub shows : ℕ → ℕ → Showing
   shows room area =
@@ -75,7 +73,7 @@ module _ (slot : Slot) (plan : Plan) (s : Street) where
 
   abbrev pub street_by : Showing → Street
   street_by (step x) = record {
-    state = state_after slot.profile.m slot.profile.r plan.wrong s.state;
+    state = state_after (held slot).m (held slot).r plan.wrong s.state;
     turn = x.try;
     at = suc x.meter;
     due = set s.due x.meter (indicator (is_refused x.answer));
@@ -85,7 +83,7 @@ module _ (slot : Slot) (plan : Plan) (s : Street) where
 
   -- "The block's buffer keeps the last block sent; where none is sent, it and the area stay."
   abbrev pub block_by : List ℕ → Showing → List ℕ
-  block_by block (step x) = block_of slot.profile plan.wrong s.state
+  block_by block (step x) = block_of (held slot) plan.wrong s.state
   block_by block shows_none = block
   block_by block (refused number) = block
 
@@ -102,10 +100,13 @@ answered fate.Right = right
 answered fate.Other = other
 answered (fate.Refused why) = refusal (number_of why)
 
+abbrev pub Shown : Type 0
+Shown = Result (Option Sent) Refusal
+
 abbrev pub shown_as : Shown → Showing
-shown_as (code.Sent i k f) = step (record { meter = i; try = k; answer = answered f })
-shown_as code.NoneLeft = shows_none
-shown_as (code.Refused why) = refused (number_of why)
+shown_as (Ok (Some sent)) = step (record { meter = sent.meter; try = sent.turn; answer = answered sent.fate })
+shown_as (Ok None) = shows_none
+shown_as (Err why) = refused (number_of why)
 
 module _ (slot : Slot) (plan : Plan) (s : Street) where
   -- a step that shows x: the block's buffer and the area before and after it

@@ -1,32 +1,30 @@
 -- A step, case by case: what it shows, and what a call promises. Assumes nothing.
-use Rattle.std.specs.Prelude.{ℕ, suc, ◌≤◌, ◌<◌, ◌≡◌, refl, Bool, true, false, cond, ◌&&◌, List, ltb, ℤ, length}
+use Rattle.streets.specs.Street.{Meter, Nobody, Sender}
+use Rattle.std.specs.Prelude.{ℕ, suc, ◌≤◌, ◌<◌, ◌≡◌, refl, Bool, true, false, cond, ◌&&◌, List, ltb, ℤ, length, Some, None, Ok}
 use Rattle.std.proofs.Common.{add-one, arith, ap, subst}
 use Rattle.std.proofs.lemmas.Bool.{false≢true}
 use borrow.Author.Tests.{eq-eqb, ltb-true, ne_eqb}
 use Rattle.refusals.specs.Refusals.{first_refusal, number_of}
 use Rattle.refusals.proofs.CheckLaws.{number_pos}
 use Rattle.refusals.specs.declared.Refusal.{Refusal}
-use Rattle.tables.specs.declared.Slot.{Slot}
+use Rattle.tables.specs.Tables.{Slot, held}
 use Rattle.streets.specs.State.{Leaves, Showing, Steps, next_due, refused, room_checks, sender_of, setting_checks, shows, shows_by}
 use Rattle.streets.specs.Sends.{Sends}
 use Rattle.streets.specs.Calls.{refusing, sending}
 use Rattle.streets.specs.declared.Plan.{Plan}
-use Rattle.streets.specs.declared.Shown.TheVariants.{NoneLeft}
 use Rattle.streets.specs.declared.Stepped.{Stepped}
 use Rattle.streets.specs.declared.Street.{Street}
-use Rattle.streets.specs.declared.meters.Sender.{Sender}
-use Rattle.streets.specs.declared.meters.Sender.TheVariants.{Nobody, Meter}
 use Rattle.streets.specs.declared.sends.Sending.{Sending}
 
 -- ---- who sends is one of the meters
 
 abbrev meter_of : Sender → ℕ
-meter_of Nobody = 0
-meter_of (Meter i k) = i
+meter_of None = 0
+meter_of (Some v) = v.meter
 
 abbrev pub is_meter : Sender → Bool
-is_meter Nobody = false
-is_meter (Meter i k) = true
+is_meter None = false
+is_meter (Some v) = true
 
 either : (n i j t u : ℕ) (b x c : Bool) → ltb i n ≡ b → ltb j n ≡ c → {w : ℕ} {k : ℕ} → cond b (Meter i t) (cond (x && c) (Meter j u) Nobody) ≡ Meter w k → w < n
 either n i j t u true x c e f q = omega (arith, ltb-true i n e, ap meter_of q)
@@ -41,8 +39,8 @@ sender_within plan s q =
 
 -- and its try is within the retry limit where the turn is
 abbrev turn_of : Sender → ℕ
-turn_of Nobody = 0
-turn_of (Meter i k) = k
+turn_of None = 0
+turn_of (Some v) = v.turn
 
 in_turn : (r i j t : ℕ) (b x c : Bool) → ltb t r ≡ x → {w : ℕ} {k : ℕ} → cond b (Meter i t) (cond (x && c) (Meter j (suc t)) Nobody) ≡ Meter w k → t ≤ r → k ≤ r
 in_turn r i j t true x c e q h = omega (arith, ap turn_of q)
@@ -90,9 +88,9 @@ module _ (slot : Slot) (plan : Plan) (s : Street) where
         rw (ne_eqb number 0 some, ← n) (refused_leaves why e)
 
     pub steps_none : 0 ≡ first_refusal (setting_checks slot plan s.state) → Nobody ≡ sender_of plan s
-        → Steps slot plan s block block area area (record { shown = NoneLeft; street = s })
+        → Steps slot plan s block block area area (record { shown = Ok None; street = s })
     steps_none e f =
-        subst (λ (x : Showing). Leaves slot plan s x block block area area (record { shown = NoneLeft; street = s })) (settings_pass (length block) (length area) e f)
+        subst (λ (x : Showing). Leaves slot plan s x block block area area (record { shown = Ok None; street = s })) (settings_pass (length block) (length area) e f)
         (record { shown = refl; street = refl; block_is = refl; area_is = refl })
 
     module _ {block' : List ℕ} {area' : List ℤ} {i k : ℕ} where
@@ -101,7 +99,7 @@ module _ (slot : Slot) (plan : Plan) (s : Street) where
           → Steps slot plan s block block' area area' a
       steps_sent {a} e f h = subst (λ (x : Showing). Leaves slot plan s x block block' area area' a) (settings_pass (length block) (length area) e f) h
 
-      pub sent_leaves : {number : ℕ} (r : Sending) {a : Stepped} → number ≡ 0 → Sends slot.profile plan.wrong s.state block' area area' r
+      pub sent_leaves : {number : ℕ} (r : Sending) {a : Stepped} → number ≡ 0 → Sends (held slot) plan.wrong s.state block' area area' r
           → a ≡ sending s i k r → Leaves slot plan s (shows_by slot plan s number (Meter i k)) block block' area area' a
       sent_leaves {number} r n h e =
           rw (eq-eqb number 0 n, e)

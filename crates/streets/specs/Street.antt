@@ -1,16 +1,25 @@
 -- A street of meters that send in turn, over the list of its steps: document 02, request 10. Assumes nothing.
-use Rattle.std.specs.Prelude.{ℕ, zero, suc, ◌+◌, Bool, true, false, cond, not, ◌&&◌, ◌||◌, List, [], ◌∷◌, eqb, leb, ltb, length}
+use Rattle.std.specs.Prelude.{ℕ, zero, suc, ◌+◌, Bool, true, false, cond, not, ◌&&◌, ◌||◌, List, [], ◌∷◌, eqb, leb, ltb, length, Option, Some, None}
 use Rattle.words.specs.Sum.{first_where}
 use Rattle.words.specs.Word.{distance, indicator}
 use Rattle.profiles.specs.declared.Profile.{Profile}
-use Rattle.tables.specs.declared.Slot.{Slot}
+use Rattle.tables.specs.Tables.{Slot, held}
 use Rattle.rule.specs.Reading.{Outcome, accepted, refused}
 use Rattle.rule.specs.Decoding.{decode_of}
 use Rattle.load.specs.Load.{block_from, sent_from}
 use Rattle.load.specs.Records.{state_at}
 use Rattle.streets.specs.declared.Plan.{Plan}
-use Rattle.streets.specs.declared.meters.Sender.{Sender}
-use Rattle.streets.specs.declared.meters.Sender.TheVariants.{Nobody, Meter}
+use Rattle.streets.specs.declared.meters.Due.{Due}
+
+-- nobody, or a meter at a try
+abbrev pub Sender : Type 0
+Sender = Option Due
+
+abbrev pub Nobody : Sender
+Nobody = None
+
+abbrev pub Meter : ℕ → ℕ → Sender
+Meter i k = Some (record { meter = i; turn = k })
 
 -- "its answer: right, another codeword, or the refusal"
 pub data Answered : Type 0 where
@@ -109,8 +118,8 @@ module _ (slot : Slot) (plan : Plan) (start : ℕ) where
 
   -- with nobody left to send, nothing is added
   unfoldable pub with_step : List Step → Sender → List Step
-  with_step l Nobody = l
-  with_step l (Meter i k) = record { meter = i; try = k; answer = answer_to slot.profile plan.wrong (load_at l) } ∷ l
+  with_step l None = l
+  with_step l (Some v) = record { meter = v.meter; try = v.turn; answer = answer_to (held slot) plan.wrong (load_at l) } ∷ l
 
   -- after n calls
   unfoldable pub steps_after : ℕ → List Step

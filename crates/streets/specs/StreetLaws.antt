@@ -2,16 +2,16 @@
 use Prim.Native.Nat.{ℕ, zero, suc, ◌+◌, ◌*◌, ◌^◌, ◌≤◌, ◌<◌}
 use Rattle.std.proofs.Common.{mul-le-mul_right, suc-mul, arith, sym, ◌∙◌, subst}
 use Rattle.std.proofs.Math.Decide.{le_ind}
-use Rattle.std.specs.Prelude.{◌≡◌, ◌⊎◌, false, List, [], ◌∷◌, ltb}
+use Rattle.std.specs.Prelude.{◌≡◌, ◌⊎◌, false, List, [], ◌∷◌, ltb, Some, None}
 use Rattle.std.proofs.Math.Path.{refl, ap}
 use Rattle.std.proofs.Math.Logic.{inl, inr, ⊎_elim}
 use Rattle.std.proofs.lemmas.Bool.{false≢true}
 use Rattle.std.proofs.Math.ListN.{length}
 use Rattle.refusals.specs.Refusals.{first_refusal}
-use Rattle.tables.specs.declared.Slot.{Slot}
+use Rattle.tables.specs.Tables.{Slot, held}
 use Rattle.load.specs.LoadLaws.{before_live}
 use Rattle.words.specs.Word.{indicator}
-use Rattle.streets.specs.Street.{Answered, Step, answer_to, count_steps, is_other, is_refused, is_right, load_at, other, other_in, refusal, refused_in, right, right_in, sender_after, sent_in, steps_after, with_step}
+use Rattle.streets.specs.Street.{Answered, Meter, Nobody, Sender, Step, answer_to, count_steps, is_other, is_refused, is_right, load_at, other, other_in, refusal, refused_in, right, right_in, sender_after, sent_in, steps_after, with_step}
 use Rattle.streets.specs.State.{Showing, shows_none, room_checks, sender_of, setting_checks, shows, shows_by, step, street_after, street_by}
 use Rattle.streets.specs.CheckLaws.{settings_again, settled}
 use Rattle.streets.specs.Bounds.{accepted_of, one_most, sent_by}
@@ -19,8 +19,6 @@ use Rattle.streets.specs.Represents.{DueIn, goes_after, represents, steps_first,
 use Rattle.streets.specs.StepLaws.{is_meter, settings_pass}
 use Rattle.streets.specs.declared.Plan.{Plan}
 use Rattle.streets.specs.declared.Street.{Street}
-use Rattle.streets.specs.declared.meters.Sender.{Sender}
-use Rattle.streets.specs.declared.meters.Sender.TheVariants.{Nobody, Meter}
 
 -- ---- "blocks sent are those accepted right, accepted as another codeword, and refused", of any list of steps
 
@@ -36,8 +34,8 @@ adds_up (x ∷ l) = one_of x.answer (sent_in l) (right_in l) (other_in l) (refus
 
 -- what a step shows after the steps l
 abbrev pub next_of : Slot → Plan → ℕ → List Step → Sender → Showing
-next_of slot plan start l Nobody = shows_none
-next_of slot plan start l (Meter i k) = step (record { meter = i; try = k; answer = answer_to slot.profile plan.wrong (load_at slot plan start l) })
+next_of slot plan start l None = shows_none
+next_of slot plan start l (Some v) = step (record { meter = v.meter; try = v.turn; answer = answer_to (held slot) plan.wrong (load_at slot plan start l) })
 
 module _ (slot : Slot) (plan : Plan) (start : ℕ) where
   abbrev steps : ℕ → List Step
@@ -72,16 +70,16 @@ module _ (slot : Slot) (plan : Plan) (start : ℕ) where
   all_sent (suc n) = ⊎_elim (λ (q : length (steps n) ≡ n). by (sender_after plan (steps n)) refl q) (λ e. inr (nobody_more n e)) (all_sent n)
     where
       by : (w : Sender) → sender_after plan (steps n) ≡ w → length (steps n) ≡ n → (length (steps (suc n)) ≡ suc n) ⊎ (sender_after plan (steps (suc n)) ≡ Nobody)
-      by Nobody e q = inr (nobody_more n e)
-      by (Meter i k) e q = inl (sent_more n e ∙ ap suc q)
+      by None e q = inr (nobody_more n e)
+      by (Some v) e q = inl (sent_more n e ∙ ap suc q)
 
   -- where a meter sends, every call before it has sent
   pub full : (n : ℕ) {i k : ℕ} → sender_after plan (steps n) ≡ Meter i k → length (steps n) ≡ n
   full n e = ⊎_elim (λ q. q) (λ z. absurd (false≢true (ap is_meter (sym z ∙ e)))) (all_sent n)
 
   length_more : (n : ℕ) (w : Sender) → sender_after plan (steps n) ≡ w → steps (length (steps n)) ≡ steps n → steps (length (steps (suc n))) ≡ steps (suc n)
-  length_more n Nobody e h = rw (stays n e (suc n) (omega arith)) h
-  length_more n (Meter i k) e h = ap steps (sent_more n e ∙ ap suc (full n e))
+  length_more n None e h = rw (stays n e (suc n) (omega arith)) h
+  length_more n (Some v) e h = ap steps (sent_more n e ∙ ap suc (full n e))
 
   -- as many calls as blocks were sent make the same steps
   pub steps-length : (n : ℕ) → steps (length (steps n)) ≡ steps n
@@ -104,7 +102,7 @@ module _ (slot : Slot) (plan : Plan) (start : ℕ) where
       -- no setting is refused later: 21 comes at the start or not at all
       pub settings_hold : (n : ℕ) → first_refusal (setting_checks slot plan (street_after slot plan start n).state) ≡ 0
       settings_hold n =
-          let live = before_live slot.profile.m slot.profile.r plan.wrong record { small = u; some = (settled slot plan start e).start } (length (steps n)) in
+          let live = before_live (held slot).m (held slot).r plan.wrong record { small = u; some = (settled slot plan start e).start } (length (steps n)) in
           settings_again slot plan start e (street_after slot plan start n).state (λ z. live.some (sym (street_load n) ∙ z))
 
       module _ (n room area : ℕ) (fits : first_refusal (room_checks slot room area) ≡ 0) where
@@ -116,8 +114,8 @@ module _ (slot : Slot) (plan : Plan) (start : ℕ) where
             sym (settings_pass slot plan s room area (sym (settings_hold n)) refl) ∙ ap (λ (number : ℕ). shows_by slot plan s number (sender_of plan s)) fits
 
         by_load : (w : Sender) → shows_by slot plan s 0 w ≡ next_of slot plan start (steps n) w
-        by_load Nobody = refl
-        by_load (Meter i k) = ap (λ (x : ℕ). step (record { meter = i; try = k; answer = answer_to slot.profile plan.wrong x })) (street_load n)
+        by_load None = refl
+        by_load (Some v) = ap (λ (x : ℕ). step (record { meter = v.meter; try = v.turn; answer = answer_to (held slot) plan.wrong x })) (street_load n)
 
         -- it shows the next step of the list, or that none is left
         pub step_shows : shows slot plan s room area ≡ next_of slot plan start (steps n) (sender_after plan (steps n))
@@ -144,8 +142,8 @@ module _ (slot : Slot) (plan : Plan) (start : ℕ) where
     ends n h = ⊎_elim (λ (q : length (steps n) ≡ n). by (sender_after plan (steps n)) refl q) (λ e. e) (all_sent n)
       where
         by : (w : Sender) → sender_after plan (steps n) ≡ w → length (steps n) ≡ n → sender_after plan (steps n) ≡ Nobody
-        by Nobody e q = e
-        by (Meter i k) e q = absurd (omega (arith, sent_more n e, steps_most (suc n)))
+        by None e q = e
+        by (Some v) e q = absurd (omega (arith, sent_more n e, steps_most (suc n)))
 
     -- a meter that was accepted, right or as another codeword, sends no more
     pub accepted_quiet : (n : ℕ) {i k : ℕ} → sender_after plan (steps n) ≡ Meter i k → accepted_of (steps n) i ≡ false

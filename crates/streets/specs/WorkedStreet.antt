@@ -7,8 +7,7 @@ use Rattle.words.specs.Word.{add_words, distance}
 use Rattle.code.specs.Code.{codeword, dimension, monomial, rank, spread}
 use Rattle.hadamard.specs.Correlation.{affine, correlation, count_below}
 use Rattle.refusals.specs.Refusals.{first_refusal}
-use Rattle.tables.specs.declared.Slot.{Slot}
-use Rattle.tables.specs.Tables.{in_limits, known, ours, slot_of}
+use Rattle.tables.specs.Tables.{Slot, in_limits, known, ours, slot_of}
 use Rattle.rule.specs.Reading.{order1, reading}
 use Rattle.rule.specs.Decoding.{after, decode_of}
 use Rattle.generator.specs.Generator.{draw, draw_times, draw_until, message_from, places_from, step, steps, wrong_in}

@@ -2,12 +2,12 @@
 #![tactic(auto)]
 
 ghost use Rattle.std.specs.Prelude.{◌≡◌};
-ghost use Rattle.tables.specs.Tables.{ours, slot_of};
+ghost use Rattle.tables.specs.Tables.{slot_of};
 ghost use Rattle.streets.specs.State.{Steps, begins};
 
 use refusals::Refusal;
 use street_steps::step_in;
-use tables::Table;
+use tables::Profiles;
 
 mod meters;
 mod sends;
@@ -40,19 +40,18 @@ pub enum Fate {
     Refused(Refusal),
 }
 
-// What a step shows.
+// A block sent: the meter, its try and what became of the block.
 #[derive(Clone, Copy)]
-pub enum Shown {
-    // The meter, its try and its answer.
-    Sent(usize, usize, Fate),
-    NoneLeft,
-    Refused(Refusal),
+pub struct Sent {
+    pub meter: usize,
+    pub turn: usize,
+    pub fate: Fate,
 }
 
-// What a step shows, and the street after it.
+// What a step shows, nothing where no meter is left, and the street after it.
 #[derive(Clone, Copy)]
 pub struct Stepped {
-    pub shown: Shown,
+    pub shown: Result<Option<Sent>, Refusal>,
     pub street: Street,
 }
 
@@ -68,29 +67,17 @@ pub fn begin(start: u32) -> Street
     }
 }
 
-// One step under a table: the next meter sends. A refused step, and one with no meter left, leave the street, the block and the area.
-pub fn step(
-    table: Table,
+// One step under a table, or document 01's: the next meter sends. A refused step, and one with no meter left, leave the street, the block
+// and the area.
+pub fn step<P: Profiles>(
+    profiles: &P,
     number: usize,
     plan: Plan,
     street: Street,
     block: &mut [u8],
     area: &mut [i32],
 ) -> Stepped
-    ensures { Steps (slot_of table number) plan street block.old block.new area.old area.new result }
+    ensures { Steps (slot_of (P.table profiles.now) number) plan street block.old block.new area.old area.new result }
 {
-    step_in(tables::look(table, number), plan, street, block, area)
-}
-
-// One step under document 01's table.
-pub fn step_profile(
-    profile: usize,
-    plan: Plan,
-    street: Street,
-    block: &mut [u8],
-    area: &mut [i32],
-) -> Stepped
-    ensures { Steps (slot_of ours profile) plan street block.old block.new area.old area.new result }
-{
-    step_in(tables::look_ours(profile), plan, street, block, area)
+    step_in(profiles.look(number), plan, street, block, area)
 }

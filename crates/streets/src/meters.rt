@@ -1,14 +1,15 @@
 // Who sends next.
 ghost use Rattle.std.specs.Prelude.{◌≡◌, ◌≤◌};
-ghost use Rattle.streets.specs.State.{next_due, sender_of, waits_from};
+ghost use Rattle.streets.specs.State.{sender_of, waits_from};
+ghost use Rattle.streets.specs.MeterLaws.{Found};
 
 use crate::{Plan, Street};
 
-// Nobody, or a meter at a try.
+// A meter that is to send, at a try.
 #[derive(Clone, Copy)]
-pub enum Sender {
-    Nobody,
-    Meter(usize, usize),
+pub struct Due {
+    pub meter: usize,
+    pub turn: usize,
 }
 
 // Whether a meter i, with this in its place of `due`, stands at `from` or after it and is to send.
@@ -21,34 +22,34 @@ fn waits(d: u8, from: usize, i: usize) -> bool
     d != 0
 }
 
-// The first meter from `from` on that is to send, the number of meters where there is none.
-fn next_due(due: [u8; 256], meters: usize, from: usize) -> usize
+// The first meter from `from` on that is to send.
+fn next_due(due: [u8; 256], meters: usize, from: usize) -> Option<usize>
     requires { meters ≤ 256 }
-    ensures { result ≡ next_due due meters from }
+    ensures { Found due meters from result }
 {
+    // By index: a meter's place says whether it has had the turn.
     for i in 0..meters {
         if waits(due[i], from, i) {
-            return i;
+            return Some(i);
         }
     }
-    meters
+    None
 }
 
-pub fn next_sender(plan: Plan, street: Street) -> Sender
+// Nobody, or the meter that is to send.
+pub fn next_sender(plan: Plan, street: Street) -> Option<Due>
     requires { plan.meters ≤ 256 }
     ensures { result ≡ sender_of plan street }
 {
     let due = street.due;
-    let i = next_due(due, plan.meters, street.at);
-    if i < plan.meters {
-        return Sender::Meter(i, street.turn);
+    if let Some(meter) = next_due(due, plan.meters, street.at) {
+        let turn = street.turn;
+        return Some(Due { meter, turn });
     }
     if plan.retries <= street.turn {
-        return Sender::Nobody;
+        return None;
     }
-    let j = next_due(due, plan.meters, 0);
-    if j < plan.meters {
-        return Sender::Meter(j, street.turn + 1);
-    }
-    Sender::Nobody
+    let meter = next_due(due, plan.meters, 0)?;
+    let turn = street.turn + 1;
+    Some(Due { meter, turn })
 }

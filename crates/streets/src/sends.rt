@@ -7,7 +7,7 @@ ghost use Rattle.streets.specs.State.{answered};
 use crate::Fate;
 use load::blocks::draw_block;
 use profiles::Profile;
-use refusals::Decoded;
+use refusals::{Accepted, Refused};
 
 // What became of a block, and the load's state after it.
 #[derive(Clone, Copy)]
@@ -17,19 +17,19 @@ pub struct Sending {
 }
 
 // What the decoder's answer and the word that it gave say, with the codeword sent.
-fn judge(m: usize, decoded: Decoded, sent: &[u8], got: &[u8]) -> Fate
+fn judge(m: usize, decoded: Result<Accepted, Refused>, sent: &[u8], got: &[u8]) -> Fate
     requires { (m ≤ 10) × IsWord m sent.now × IsWord m got.now }
     ensures { answered result ≡ judged_by m sent.now got.now decoded }
 {
     match decoded {
-        Decoded::Accepted(_, _, _) => {
+        Ok(_) => {
             if words::distance(m, sent, got) == 0 {
                 Fate::Right
             } else {
                 Fate::Other
             }
         }
-        Decoded::Refused(why, _, _) => Fate::Refused(why),
+        Err(refused) => Fate::Refused(refused.why),
     }
 }
 

@@ -4,21 +4,22 @@ ghost use Rattle.refusals.specs.Refusals.{first_refusal};
 ghost use Rattle.tables.specs.Slots.{Proper};
 ghost use Rattle.streets.specs.State.{Leaves, Steps, answered, room_checks, shows_by};
 ghost use Rattle.streets.specs.Calls.{Ready, again_of, refusing, sending};
-ghost use Rattle.streets.specs.declared.meters.Sender.TheVariants.{Meter};
+ghost use Rattle.streets.specs.Street.{Meter};
+ghost use Rattle.tables.specs.Tables.{some};
 
-use crate::meters::{Sender, next_sender};
+use crate::meters::next_sender;
 use crate::sends::{Sending, send};
 use crate::street_checks::{check_room, check_settings};
-use crate::{Fate, Plan, Shown, Stepped, Street};
-use refusals::{Answer, Refusal};
-use tables::Slot;
+use crate::{Fate, Plan, Sent, Stepped, Street};
+use profiles::Profile;
+use refusals::Refusal;
 
 // A refused step leaves the street.
 fn refuse(why: Refusal, street: Street) -> Stepped
     ensures { result ≡ refusing why street }
 {
     Stepped {
-        shown: Shown::Refused(why),
+        shown: Err(why),
         street,
     }
 }
@@ -43,7 +44,11 @@ fn sent_by(street: Street, i: usize, turn: usize, sent: Sending) -> Stepped
     let mut due = street.due;
     due[i] = again(fate);
     Stepped {
-        shown: Shown::Sent(i, turn, fate),
+        shown: Ok(Some(Sent {
+            meter: i,
+            turn,
+            fate,
+        })),
         street: Street {
             state: sent.state,
             turn,
@@ -55,7 +60,7 @@ fn sent_by(street: Street, i: usize, turn: usize, sent: Sending) -> Stepped
 
 // Meter i is the one to send: 6, 7, or its block.
 fn send_next(
-    slot: Slot,
+    entry: Profile,
     plan: Plan,
     street: Street,
     i: usize,
@@ -63,20 +68,19 @@ fn send_next(
     block: &mut [u8],
     area: &mut [i32],
 ) -> Stepped
-    requires { Ready slot i }
-    ensures { Leaves slot plan street (shows_by slot plan street (first_refusal (room_checks slot (length block.old) (length area.old))) (Meter i turn)) block.old block.new area.old area.new result }
+    requires { Ready (some entry) i }
+    ensures { Leaves (some entry) plan street (shows_by (some entry) plan street (first_refusal (room_checks (some entry) (length block.old) (length area.old))) (Meter i turn)) block.old block.new area.old area.new result }
 {
-    let checked = check_room(slot, block.len(), area.len());
-    if let Answer::Refused(why) = checked {
+    if let Err(why) = check_room(entry, block.len(), area.len()) {
         return refuse(why, street);
     }
-    let sent = send(slot.profile, plan.wrong, street.state, block, area);
+    let sent = send(entry, plan.wrong, street.state, block, area);
     sent_by(street, i, turn, sent)
 }
 
 // One step: the next meter sends.
 pub fn step_in(
-    slot: Slot,
+    slot: Option<Profile>,
     plan: Plan,
     street: Street,
     block: &mut [u8],
@@ -85,16 +89,15 @@ pub fn step_in(
     requires { Proper slot }
     ensures { Steps slot plan street block.old block.new area.old area.new result }
 {
-    let checked = check_settings(slot, plan, street.state);
-    if let Answer::Refused(why) = checked {
-        return refuse(why, street);
-    }
-    let sender = next_sender(plan, street);
-    match sender {
-        Sender::Nobody => Stepped {
-            shown: Shown::NoneLeft,
+    let entry = match check_settings(slot, plan, street.state) {
+        Ok(entry) => entry,
+        Err(why) => return refuse(why, street),
+    };
+    match next_sender(plan, street) {
+        Some(due) => send_next(entry, plan, street, due.meter, due.turn, block, area),
+        None => Stepped {
+            shown: Ok(None),
             street,
         },
-        Sender::Meter(i, turn) => send_next(slot, plan, street, i, turn, block, area),
     }
 }

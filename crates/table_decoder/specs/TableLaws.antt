@@ -1,18 +1,15 @@
 -- A call by an entry of a table is the call under its limits; document 01's table gives the calls by profile; and demand 3. Assumes nothing.
-use Rattle.std.specs.Prelude.{ℕ, ◌≡◌, refl, Bool, true, false, cond, List, ◌++◌, leb, length, ℤ}
+use Rattle.std.specs.Prelude.{ℕ, ◌≡◌, refl, Bool, true, false, cond, List, ◌++◌, leb, length, ℤ, Err}
 use Rattle.std.proofs.Common.{sym, ap, ◌∙◌, arith, le-leb, ne_eqb}
 use Rattle.std.proofs.lemmas.Bool.{lt-leb}
 use Rattle.words.specs.Word.{add_words}
 use Rattle.code.specs.Code.{IsCodeword}
 use Rattle.refusals.proofs.CheckLaws.{no_more, other_place, passes, fails, then}
-use Rattle.refusals.specs.Refusals.{code_checks, first_refusal}
-use Rattle.refusals.specs.declared.Decoded.{Decoded}
-use Rattle.refusals.specs.declared.Decoded.TheVariants.{Refused}
+use Rattle.refusals.specs.Refusals.{code_checks, first_refusal, Decoded}
 use Rattle.refusals.specs.declared.Refusal.TheVariants as refusal
 use Rattle.profiles.specs.declared.Profile.{Profile}
 use Rattle.tables.specs.declared.Table.{Table}
-use Rattle.tables.specs.declared.Slot.{Slot}
-use Rattle.tables.specs.Tables.{entry_of, known, none, ours, slot_of, some}
+use Rattle.tables.specs.Tables.{Slot, entry_of, held, is_there, known, none, ours, slot_of, some}
 use Rattle.tables.specs.Limits.{InLimits, is_known, ours-known, ours_entry}
 use Rattle.tables.specs.Slots.{slot_known}
 use Rattle.rule.specs.Reading.{Outcome, accepted, reading, refused}
@@ -88,23 +85,24 @@ ours_call number word room area = rw (ours-known number, ours_entry number)
 
 -- ---- the code's returns, by what the table has at the number
 
-one_of : (b : Bool) (p : Profile) → (cond b (some p) none).known ≡ b
+one_of : (b : Bool) (p : Profile) → is_there (cond b (some p) none) ≡ b
 one_of true p = refl
 one_of false p = refl
 
-pub slot_says : (t : Table) (number : ℕ) → (slot_of t number).known ≡ known t number
+pub slot_says : (t : Table) (number : ℕ) → is_there (slot_of t number) ≡ known t number
 unfolding slot_of
 slot_says t number = one_of (known t number) (entry_of t number)
 
 module _ (t : Table) (number : ℕ) {word out : List ℕ} {area : List ℤ} {s : Slot} (q : s ≡ slot_of t number) where
-  pub unknown_decodes : s.known ≡ false → Decodes (entry_of t number).m (decode_table_call t number word (length out) (length area)) word out out area area (Refused refusal.Profile 0 0)
+  pub unknown_decodes : s ≡ none → Decodes (entry_of t number).m (decode_table_call t number word (length out) (length area)) word out out area area (Err record { why = refusal.Profile; rounds = 0; leaves = 0 })
   unknown_decodes e =
-      rw (unknown_call t number word (length out) (length area) (sym (slot_says t number) ∙ ap (λ (x : Slot). x.known) (sym q) ∙ e))
+      rw (unknown_call t number word (length out) (length area) (sym (slot_says t number) ∙ ap is_there (sym q ∙ e)))
       (record { answer = refl; place = sym (other_place word 14 (λ z. omega arith)); output = refl; lent = refl })
 
-  pub known_decodes : {out' : List ℕ} {area' : List ℤ} {d : Decoded} → s.known ≡ true
-      → Decodes s.profile.m (decode_call s.profile.m s.profile.r s.profile.rounds s.profile.leaves word (length out) (length area)) word out out' area area' d
+  pub known_decodes : {p : Profile} {out' : List ℕ} {area' : List ℤ} {d : Decoded} → s ≡ some p
+      → Decodes p.m (decode_call p.m p.r p.rounds p.leaves word (length out) (length area)) word out out' area area' d
       → Decodes (entry_of t number).m (decode_table_call t number word (length out) (length area)) word out out' area area' d
-  known_decodes e h =
-      let k : known t number ≡ true = sym (slot_says t number) ∙ ap (λ (x : Slot). x.known) (sym q) ∙ e in
-      rw (known_call t number word (length out) (length area) k) (rw (q ∙ slot_known t number k) at h)
+  known_decodes {p} e h =
+      let k : known t number ≡ true = sym (slot_says t number) ∙ ap is_there (sym q ∙ e) in
+      let is : p ≡ entry_of t number = ap held (sym e ∙ q ∙ slot_known t number k) in
+      rw (known_call t number word (length out) (length area) k) (rw is at h)

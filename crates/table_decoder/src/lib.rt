@@ -6,23 +6,19 @@ ghost use Rattle.rule.specs.Calls.{Decodes};
 ghost use Rattle.tables.specs.Tables.{entry_of};
 ghost use Rattle.table_decoder.specs.Table.{decode_table_call};
 
-use refusals::{Decoded, Refusal};
-use tables::Table;
+use refusals::{Accepted, Refusal, Refused};
+use tables::Profiles;
 
-// Decodes a block under the limits of a table's entry.
-pub fn decode_table(
-    table: Table,
+// Decodes a block under the limits of an entry of a table, or of document 01's.
+pub fn decode_table<P: Profiles>(
+    profiles: &P,
     number: usize,
     word: &[u8],
     out: &mut [u8],
     area: &mut [i32],
-) -> Decoded
-    ensures { Decodes (entry_of table number).m (decode_table_call table number word.now (length out.old) (length area.old)) word.now out.old out.new area.old area.new result }
+) -> Result<Accepted, Refused>
+    ensures { Decodes (entry_of (P.table profiles.now) number).m (decode_table_call (P.table profiles.now) number word.now (length out.old) (length area.old)) word.now out.old out.new area.old area.new result }
 {
-    let slot = tables::look(table, number);
-    if !slot.known {
-        return Decoded::Refused(Refusal::Profile, 0, 0);
-    }
-    let p = slot.profile;
+    let p = profiles.look(number).ok_or(Refusal::Profile)?;
     decoder::decode(p.m, p.r, p.rounds, p.leaves, word, out, area)
 }

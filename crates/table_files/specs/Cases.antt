@@ -1,5 +1,5 @@
 -- Loading a file, case by case. Assumes nothing.
-use Rattle.std.specs.Prelude.{ℕ, zero, suc, ◌+◌, ◌*◌, ◌≤◌, ◌<◌, ◌≡◌, refl, true, false, List, length, set, replicate, leb, ltb, eqb}
+use Rattle.std.specs.Prelude.{ℕ, zero, suc, ◌+◌, ◌*◌, ◌≤◌, ◌<◌, ◌≡◌, refl, true, false, List, length, set, replicate, leb, ltb, eqb, Ok, Err}
 use Rattle.std.proofs.Math.Path.{sym, ap}
 use Rattle.std.proofs.Common.{◌∙◌, arith}
 use Rattle.std.proofs.Math.Bool.{cond, not}
@@ -13,7 +13,6 @@ use Rattle.words.specs.Search.{first_where_lem, where_first}
 use Rattle.header.specs.Header.{agrees_from}
 use Rattle.words.specs.Written.{Written, written_none, written_more}
 use Rattle.profiles.specs.declared.Profile.{Profile}
-use Rattle.refusals.specs.declared.Answer.TheVariants.{Done, Refused}
 use Rattle.refusals.specs.declared.Refusal.TheVariants.{TableFile, TableEntry}
 use Rattle.tables.specs.declared.Table.{Table}
 use Rattle.tables.specs.Tables.{entry_of, in_limits, known, no_entry}
@@ -83,21 +82,21 @@ is_table f e =
 -- ---- loading
 
 module _ (f : List ℕ) (t : Table) where
-  pub not_table : file_test f ≡ false → record { answer = Refused TableFile; table = t } ≡ loaded f t
+  pub not_table : file_test f ≡ false → record { answer = Err TableFile; table = t } ≡ loaded f t
   unfolding loaded
   not_table e = rw e
 
   module _ (ok : file_test f ≡ true) where
     -- entry i is the first outside the limits
     pub outside : (i : ℕ) → i < count_in f → ((q : ℕ) → q < i → in_limits (entry_in f q) ≡ true) → in_limits (entry_in f i) ≡ false
-        → record { answer = Refused (TableEntry i); table = t } ≡ loaded f t
+        → record { answer = Err (TableEntry i); table = t } ≡ loaded f t
     unfolding loaded first_outside
     outside i l h k =
         let e : i ≡ first_outside f = first_where_lem (record { within = omega arith; before = λ q m. ap not (h q m); found = λ m. ap not k }) in
         rw (ok, ← e, lt-ltb i (count_in f) l)
 
     -- none is
-    pub whole : ((q : ℕ) → q < count_in f → in_limits (entry_in f q) ≡ true) → record { answer = Done; table = table_in f } ≡ loaded f t
+    pub whole : ((q : ℕ) → q < count_in f → in_limits (entry_in f q) ≡ true) → record { answer = (Ok tt); table = table_in f } ≡ loaded f t
     unfolding loaded first_outside
     whole h =
         let e : count_in f ≡ first_outside f = first_where_lem (record { within = omega arith; before = λ q m. ap not (h q m); found = λ m. absurd (omega arith) }) in

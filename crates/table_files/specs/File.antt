@@ -1,8 +1,7 @@
 -- A table file: document 02, request 4. Assumes nothing.
-use Rattle.std.specs.Prelude.{ℕ, ◌+◌, ◌*◌, Bool, cond, not, ◌&&◌, List, [], ◌∷◌, length, get_or, leb, ltb, eqb}
+use Rattle.std.specs.Prelude.{ℕ, ◌+◌, ◌*◌, Bool, cond, not, ◌&&◌, List, [], ◌∷◌, length, get_or, leb, ltb, eqb, Ok, Err}
 use Rattle.words.specs.Sum.{first_where, tabulate}
 use Rattle.header.specs.Header.{agrees_from}
-use Rattle.refusals.specs.declared.Answer.TheVariants.{Done, Refused}
 use Rattle.refusals.specs.declared.Refusal.TheVariants.{TableFile, TableEntry}
 use Rattle.profiles.specs.declared.Profile.{Profile}
 use Rattle.profiles.specs.Profiles.{row}
@@ -44,6 +43,6 @@ table_in f = record { count = count_in f; entries = tabulate 32 (λ i. cond (ltb
 -- a file loaded with the table t in use: 20 is "tested after 19"; "A refused file leaves the table in use."
 unfoldable pub loaded : List ℕ → Table → Loaded
 loaded f t =
-    cond (not (file_test f)) (record { answer = Refused TableFile; table = t })
-    (cond (ltb (first_outside f) (count_in f)) (record { answer = Refused (TableEntry (first_outside f)); table = t })
-    (record { answer = Done; table = table_in f }))
+    cond (not (file_test f)) (record { answer = Err TableFile; table = t })
+    (cond (ltb (first_outside f) (count_in f)) (record { answer = Err (TableEntry (first_outside f)); table = t })
+    (record { answer = (Ok tt); table = table_in f }))

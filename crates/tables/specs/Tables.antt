@@ -1,9 +1,8 @@
 -- Tables of profiles: document 02, request 4. Assumes nothing.
-use Rattle.std.specs.Prelude.{ℕ, Bool, true, false, ◌&&◌, cond, ◌++◌, get_or, replicate, leb, ltb}
+use Rattle.std.specs.Prelude.{ℕ, Bool, true, false, ◌&&◌, cond, ◌++◌, get_or, replicate, leb, ltb, Option, Some, None}
 use Rattle.profiles.specs.declared.Profile.{Profile}
 use Rattle.profiles.specs.Profiles.{row, profiles}
 use Rattle.tables.specs.declared.Table.{Table}
-use Rattle.tables.specs.declared.Slot.{Slot}
 
 -- what stands where there is no entry
 abbrev pub no_entry : Profile
@@ -28,11 +27,23 @@ unfoldable pub known : Table → ℕ → Bool
 known t number = ltb number t.count && (leb number 31 && in_limits (entry_of t number))
 
 -- what a table has at a number: its entry, or none
+abbrev pub Slot : Type 0
+Slot = Option Profile
+
 abbrev pub some : Profile → Slot
-some p = record { known = true; profile = p }
+some p = Some p
 
 abbrev pub none : Slot
-none = record { known = false; profile = no_entry }
+none = None
+
+-- whether it has one there, and that entry
+abbrev pub is_there : Slot → Bool
+is_there (Some p) = true
+is_there None = false
+
+abbrev pub held : Slot → Profile
+held (Some p) = p
+held None = no_entry
 
 unfoldable pub slot_of : Table → ℕ → Slot
 slot_of t number = cond (known t number) (some (entry_of t number)) none

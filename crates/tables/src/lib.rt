@@ -1,9 +1,10 @@
 // Tables of profiles: what a table has at a number, and document 01's table.
 #![tactic(auto)]
 
-ghost use Rattle.std.specs.Prelude.{◌≡◌};
-ghost use Rattle.tables.specs.Tables.{in_limits, slot_of};
-ghost use Rattle.tables.specs.Slots.{slot_by};
+ghost use Rattle.std.specs.Prelude.{◌≡◌, ◌≤◌, true};
+ghost use Rattle.tables.specs.declared.Table.{Table};
+ghost use Rattle.tables.specs.Tables.{in_limits, is_there, slot_of};
+ghost use Rattle.tables.specs.Slots.{Proper};
 
 use profiles::Profile;
 
@@ -14,11 +15,16 @@ pub struct Table {
     pub entries: [Profile; 32],
 }
 
-// What a table has at a number: whether it has an entry there, within the limits, and that entry.
+// Document 01's table, without the table made.
 #[derive(Clone, Copy)]
-pub struct Slot {
-    pub known: bool,
-    pub profile: Profile,
+pub struct Standard;
+
+// Where profiles come from, a table or what stands for one: what there is at a number.
+pub trait Profiles {
+    ghost table: { Self → Table };
+
+    fn look(&self, number: usize) -> Option<Profile>
+        ensures { (result ≡ slot_of (table self.now) number) × Proper result × (is_there result ≡ true → number ≤ 31) };
 }
 
 // Whether a profile is within the limits of a table's entries.
@@ -58,49 +64,32 @@ pub fn no_entry() -> Profile
     }
 }
 
-// What a table of that count has at the number, p standing there in its entries. No table is handed over: one by value is copied.
-pub fn find(count: usize, number: usize, p: Profile) -> Slot
-    ensures { result ≡ slot_by count number p }
-{
-    let none = Slot {
-        known: false,
-        profile: no_entry(),
-    };
-    if count <= number {
-        return none;
-    }
-    if 31 < number {
-        return none;
-    }
-    if !in_limits(p) {
-        return none;
-    }
-    Slot {
-        known: true,
-        profile: p,
+impl Profiles for Table {
+    ghost table = { λ t. t };
+
+    fn look(&self, number: usize) -> Option<Profile> {
+        if self.count <= number {
+            return None;
+        }
+        if 31 < number {
+            return None;
+        }
+        let p = self.entries[number];
+        if !in_limits(p) {
+            return None;
+        }
+        Some(p)
     }
 }
 
-// What a table has at a number.
-pub fn look(t: Table, number: usize) -> Slot
-    ensures { result ≡ slot_of t number }
-{
-    find(t.count, number, t.entries[number % 32])
-}
+impl Profiles for Standard {
+    ghost table = { λ _. Rattle.tables.specs.Tables.ours };
 
-// What document 01's table has at a number, without making the table.
-pub fn look_ours(number: usize) -> Slot
-    ensures { result ≡ slot_of Rattle.tables.specs.Tables.ours number }
-{
-    if 4 < number {
-        return Slot {
-            known: false,
-            profile: no_entry(),
-        };
-    }
-    Slot {
-        known: true,
-        profile: profiles::by_number(number),
+    fn look(&self, number: usize) -> Option<Profile> {
+        if 4 < number {
+            return None;
+        }
+        Some(profiles::by_number(number))
     }
 }
 

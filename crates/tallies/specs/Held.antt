@@ -1,4 +1,5 @@
 -- What a store holds under a name, and what a place that is written changes. Assumes nothing.
+use Rattle.std.specs.Prelude as std
 use Rattle.std.specs.Prelude.{ℕ, ◌≤◌, ◌<◌, ◌≡◌, refl, Bool, true, false, cond, ◌&&◌, ◌≢◌, get_or, length}
 use Rattle.std.proofs.Common.{sym, ap, ◌∙◌, ⊎_elim, arith, length-set, get_or-set_same, get_or-set_other, lt-ltb, le-ltb, eqb-true, eq-eqb}
 use Rattle.std.proofs.lemmas.Bool.{false≢true, not-true}
@@ -8,7 +9,7 @@ use Rattle.words.specs.SumLaws.{le_or_lt, both_true, all_true, true_all}
 use Rattle.tallies.specs.declared.Name.{Name}
 use Rattle.tallies.specs.declared.Place.{Place}
 use Rattle.tallies.specs.declared.Store.{Store}
-use Rattle.tallies.specs.Store.{same_name, place_at, holds, where_held, free_place, held_under, room_for, put}
+use Rattle.tallies.specs.Store.{used_in, name_in, tally_in, same_name, place_at, holds, where_held, free_place, held_under, room_for, put}
 use Rattle.tallies.specs.StoreLaws.{held_first, free_first, room_own, room_free}
 
 pub never : {A : Type 0} {b : Bool} → b ≡ true → b ≡ false → A
@@ -44,18 +45,18 @@ same_trans a b c e f = same_bytes a c (λ i l. bytes_same a b e i l ∙ bytes_sa
 -- ---- places
 
 module _ (s : Store) (i : ℕ) where
-  pub holds_used : (n : Name) → holds s n i ≡ true → (place_at s i).used ≡ true
-  holds_used n h = (both_true (place_at s i).used _ h).0
+  pub holds_used : (n : Name) → holds s n i ≡ true → (used_in (place_at s i)) ≡ true
+  holds_used n h = (both_true (used_in (place_at s i)) _ h).0
 
-  pub holds_name : (n : Name) → holds s n i ≡ true → same_name (place_at s i).name n ≡ true
-  holds_name n h = (both_true (place_at s i).used _ h).1
+  pub holds_name : (n : Name) → holds s n i ≡ true → same_name (name_in (place_at s i)) n ≡ true
+  holds_name n h = (both_true (used_in (place_at s i)) _ h).1
 
   -- a place holds one name
   pub holds_one : (a b : Name) → holds s a i ≡ true → holds s b i ≡ true → same_name a b ≡ true
-  holds_one a b ha hb = same_trans a (place_at s i).name b (same_sym (place_at s i).name a (holds_name a ha)) (holds_name b hb)
+  holds_one a b ha hb = same_trans a (name_in (place_at s i)) b (same_sym (name_in (place_at s i)) a (holds_name a ha)) (holds_name b hb)
 
   pub holds_as : (a b : Name) → same_name a b ≡ true → holds s a i ≡ true → holds s b i ≡ true
-  holds_as a b e ha = both (holds_used a ha) (same_trans (place_at s i).name a b (holds_name a ha) e)
+  holds_as a b e ha = both (holds_used a ha) (same_trans (name_in (place_at s i)) a b (holds_name a ha) e)
 
 -- sixteen places, no two of them of one name
 pub record Good (s : Store) : Type 0 where
@@ -63,7 +64,7 @@ pub record Good (s : Store) : Type 0 where
   pub alone : (n : Name) (i j : ℕ) → i < 16 → j < 16 → holds s n i ≡ true → holds s n j ≡ true → i ≡ j
 
 module _ (s : Store) (n : Name) where
-  pub held_here : where_held s n < 16 → held_under s n ≡ some (place_at s (where_held s n)).tally
+  pub held_here : where_held s n < 16 → held_under s n ≡ some (tally_in (place_at s (where_held s n)))
   unfolding held_under
   held_here l = rw (lt-ltb (where_held s n) 16 l)
 
@@ -71,10 +72,10 @@ module _ (s : Store) (n : Name) where
   unfolding held_under
   held_nowhere l = rw (le-ltb (where_held s n) 16 l)
 
-  pub held_some : Good s → (i : ℕ) → i < 16 → holds s n i ≡ true → held_under s n ≡ some (place_at s i).tally
+  pub held_some : Good s → (i : ℕ) → i < 16 → holds s n i ≡ true → held_under s n ≡ some (tally_in (place_at s i))
   held_some good i l h =
       let at : where_held s n < 16 = ⊎_elim (λ (k : 16 ≤ where_held s n). never h ((held_first s n).before i (omega arith))) (λ k. k) (le_or_lt 16 (where_held s n)) in
-      held_here at ∙ ap (λ (j : ℕ). some (place_at s j).tally) (good.alone n (where_held s n) i at l ((held_first s n).found at) h)
+      held_here at ∙ ap (λ (j : ℕ). some (tally_in (place_at s j))) (good.alone n (where_held s n) i at l ((held_first s n).found at) h)
 
   pub held_none : ((i : ℕ) → i < 16 → holds s n i ≡ false) → held_under s n ≡ none
   held_none h = ⊎_elim held_nowhere (λ k. never ((held_first s n).found k) (h (where_held s n) k)) (le_or_lt 16 (where_held s n))
@@ -111,11 +112,11 @@ module _ (s : Store) (good : Good s) (n : Name) where
 
 -- ---- a place written
 
-module _ (s : Store) (good : Good s) (n : Name) (p : ℕ) (room : Room s n p) (q : Place) (mine : q.used ≡ true → same_name q.name n ≡ true) where
+module _ (s : Store) (good : Good s) (n : Name) (p : ℕ) (room : Room s n p) (q : std.Option Place) (mine : (used_in q) ≡ true → same_name (name_in q) n ≡ true) where
   here : place_at (put s p q) p ≡ q
   here = get_or-set_same s.places p q _ (omega (arith, good.size, room.within))
 
-  holds_here : (m : Name) → holds (put s p q) m p ≡ (q.used && same_name q.name m)
+  holds_here : (m : Name) → holds (put s p q) m p ≡ ((used_in q) && same_name (name_in q) m)
   holds_here m = rw here
 
   holds_there : (m : Name) (i : ℕ) → i ≢ p → holds (put s p q) m i ≡ holds s m i
@@ -124,8 +125,8 @@ module _ (s : Store) (good : Good s) (n : Name) (p : ℕ) (room : Room s n p) (q
   -- the place holds n or nothing
   is_n : (m : Name) → holds (put s p q) m p ≡ true → same_name n m ≡ true
   is_n m h =
-      let b = both_true q.used _ (sym (holds_here m) ∙ h) in
-      same_trans n q.name m (same_sym q.name n (mine b.0)) b.1
+      let b = both_true (used_in q) _ (sym (holds_here m) ∙ h) in
+      same_trans n (name_in q) m (same_sym (name_in q) n (mine b.0)) b.1
 
   -- a name at another place was there before, and is not n
   was_there : (m : Name) (i : ℕ) → i < 16 → i ≢ p → holds (put s p q) m i ≡ true → same_name n m ≡ true → ⊥
@@ -143,9 +144,9 @@ module _ (s : Store) (good : Good s) (n : Name) (p : ℕ) (room : Room s n p) (q
     ];
   }
 
-  now_n : (m : Name) → same_name n m ≡ true → (u : Bool) → q.used ≡ u → held_under (put s p q) m ≡ cond u (some q.tally) none
+  now_n : (m : Name) → same_name n m ≡ true → (u : Bool) → (used_in q) ≡ u → held_under (put s p q) m ≡ cond u (some (tally_in q)) none
   now_n m e true f =
-      held_some (put s p q) m put_good p room.within (holds_here m ∙ both f (same_trans q.name n m (mine f) e)) ∙ ap (λ (x : Place). some x.tally) here
+      held_some (put s p q) m put_good p room.within (holds_here m ∙ both f (same_trans (name_in q) n m (mine f) e)) ∙ ap (λ (x : std.Option Place). some (tally_in x)) here
   now_n m e false f = held_none (put s p q) m (λ i l. elim (ℕ_discrete i p) [
     | yes a ↦ rw (a, holds_here m, f)
     | no a ↦ fails _ (λ h. was_there m i l a h e)
@@ -156,15 +157,15 @@ module _ (s : Store) (good : Good s) (n : Name) (p : ℕ) (room : Room s n p) (q
       (λ l h.
       let ne : where_held s m ≢ p = λ a. never (room.own m (rw a at h)) e in
       held_some (put s p q) m put_good (where_held s m) l (holds_there m (where_held s m) ne ∙ h)
-      ∙ ap (λ (x : Place). some x.tally) (get_or-set_other s.places p (where_held s m) q _ ne) ∙ sym (held_here s m l))
+      ∙ ap (λ (x : std.Option Place). some (tally_in x)) (get_or-set_other s.places p (where_held s m) q _ ne) ∙ sym (held_here s m l))
       (λ l away. held_none (put s p q) m (λ i k. elim (ℕ_discrete i p) [
         | yes a ↦ fails _ (λ h. never (is_n m (rw a at h)) e)
         | no a ↦ holds_there m i a ∙ away i k
       ]) ∙ sym (held_nowhere s m l))
 
-  pub put_held : (m : Name) → held_under (put s p q) m ≡ cond (same_name n m) (cond q.used (some q.tally) none) (held_under s m)
+  pub put_held : (m : Name) → held_under (put s p q) m ≡ cond (same_name n m) (cond (used_in q) (some (tally_in q)) none) (held_under s m)
   put_held m = go (same_name n m) refl
     where
-      go : (b : Bool) → same_name n m ≡ b → held_under (put s p q) m ≡ cond b (cond q.used (some q.tally) none) (held_under s m)
-      go true e = now_n m e q.used refl
+      go : (b : Bool) → same_name n m ≡ b → held_under (put s p q) m ≡ cond b (cond (used_in q) (some (tally_in q)) none) (held_under s m)
+      go true e = now_n m e (used_in q) refl
       go false e = still m e

@@ -1,8 +1,7 @@
 -- The receive loop's tally and the named ones by the history of operations: document 02, request 11. Assumes nothing.
-use Rattle.std.specs.Prelude.{ℕ, ◌<◌, ◌≡◌, Bool, true, false, cond, ◌&&◌, List, [], ◌∷◌, ◌≢◌, eqb}
+use Rattle.std.specs.Prelude.{ℕ, ◌<◌, ◌≡◌, Bool, true, false, cond, ◌&&◌, List, [], ◌∷◌, ◌≢◌, eqb, Ok, Err}
 use Rattle.std.proofs.Math.Option.{Option, none, some}
 use Rattle.refusals.specs.Refusals.{answer_number}
-use Rattle.refusals.specs.declared.Answer.TheVariants.{Done, Refused}
 use Rattle.refusals.specs.declared.Refusal.TheVariants.{UnknownName}
 use Rattle.tally.specs.declared.Tally.{Tally}
 use Rattle.tally.specs.Counts.{tallied}
@@ -18,7 +17,7 @@ pub data Operation : Type 0 where
 
 -- an operation's answer, and the tally and the store after it, from what the one before it left
 abbrev pub operated : Operation → Kept → Kept
-operated (counting number) x = kept Done (tallied number x.tally) x.store
+operated (counting number) x = kept (Ok tt) (tallied number x.tally) x.store
 operated (saving n) x = saved x.store n x.tally
 operated (returning n) x = returned x.store n x.tally
 operated (dropping n) x = dropped x.store n x.tally
@@ -26,7 +25,7 @@ operated (dropping n) x = dropped x.store n x.tally
 -- "From an empty start, with only these calls writing": what a history leaves. It starts with no name held and any tally t, document 02's with
 -- all counts 0; its newest operation stands first.
 unfoldable pub after : Tally → List Operation → Kept
-after t [] = kept Done t empty_store
+after t [] = kept (Ok tt) t empty_store
 after t (o ∷ h) = operated o (after t h)
 
 -- "what the history gave when that name was last saved": the tally at the newest saving of n that was not refused; none where there is none, or
@@ -41,8 +40,8 @@ last_saved t n (dropping k ∷ h) = cond (same_name k n) none (last_saved t n h)
 
 -- what returning gives: that tally; or "25, no tally has that name", which leaves "all as it was"
 abbrev pub given : Option Tally → Kept → Kept
-given (some u) x = kept Done u x.store
-given none x = kept (Refused UnknownName) x.tally x.store
+given (some u) x = kept (Ok tt) u x.store
+given none x = kept (Err UnknownName) x.tally x.store
 
 -- the history has saved n, and not dropped it since
 abbrev pub is_some : Option Tally → Bool
@@ -65,4 +64,4 @@ pub record Sixteen (t : Tally) (h : List Operation) (n : Name) : Type 0 where
 
 -- "Both leave all as it was.": where y, which follows x, is a refusal
 abbrev pub Untouched : Kept → Kept → Type 0
-Untouched x y = y.answer ≢ Done → (y.tally ≡ x.tally) × (y.store ≡ x.store)
+Untouched x y = y.answer ≢ (Ok tt) → (y.tally ≡ x.tally) × (y.store ≡ x.store)

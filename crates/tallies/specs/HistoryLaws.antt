@@ -1,5 +1,5 @@
 -- Every history: what is held is what was last saved, in at most sixteen places. Assumes nothing.
-use Rattle.std.specs.Prelude.{ℕ, ◌≤◌, ◌<◌, Bool, true, false, cond, ◌&&◌, List, [], ◌∷◌, eqb}
+use Rattle.std.specs.Prelude.{ℕ, ◌≤◌, ◌<◌, Bool, true, false, cond, ◌&&◌, List, [], ◌∷◌, eqb, Ok, Err}
 use Rattle.std.proofs.Math.Path.{◌≡◌, refl}
 use Rattle.std.proofs.Common.{sym, ap, ◌∙◌, arith}
 use Rattle.std.proofs.lemmas.Bool.{false≢true}
@@ -10,13 +10,12 @@ use Rattle.std.proofs.lemmas.List.{get_or-replicate}
 use borrow.Author.Tests.{not-false}
 use Rattle.words.specs.SumLaws.{le_or_lt}
 use Rattle.refusals.specs.Refusals.{answer_number}
-use Rattle.refusals.specs.declared.Answer.TheVariants.{Done, Refused}
 use Rattle.refusals.specs.declared.Refusal.TheVariants.{NamesFull}
 use Rattle.tally.specs.declared.Tally.{Tally}
 use Rattle.tallies.specs.declared.Name.{Name}
 use Rattle.tallies.specs.declared.Kept.{Kept}
 use Rattle.tallies.specs.declared.Store.{Store}
-use Rattle.tallies.specs.Store.{same_name, held_under, place_at, freed, empty_store, holds, where_held, room_for, kept, saved, returned, dropped}
+use Rattle.tallies.specs.Store.{used_in, name_in, same_name, held_under, place_at, freed, empty_store, holds, where_held, room_for, kept, saved, returned, dropped}
 use Rattle.tallies.specs.StoreLaws.{free_first, held_first, room_own, room_free, saves, full, saved_cases, returned_cases, dropped_cases}
 use Rattle.tallies.specs.History.{Operation, counting, saving, returning, dropping, operated, after, last_saved, given, is_held, is_some, HeldNames, Sixteen, Untouched}
 use Rattle.tallies.specs.Held.{Good, never, fails, both, holds_as, same_refl, same_sym, holds_one, held_here, held_nowhere, held_none, held_cases, held_some, room_held, room_for_lem, put_good, put_held}
@@ -37,9 +36,9 @@ module _ (s : Store) (good : Good s) (k : Name) (t : Tally) where
   returned_store : (returned s k t).store ≡ s
   returned_store = returned_cases s k t (λ (x : Kept). x.store ≡ s) (λ l. refl) (λ l. refl)
 
-  returned-given : returned s k t ≡ given (held_under s k) (kept Done t s)
+  returned-given : returned s k t ≡ given (held_under s k) (kept (Ok tt) t s)
   returned-given =
-      returned_cases s k t (λ (x : Kept). x ≡ given (held_under s k) (kept Done t s)) (λ l. rw (held_nowhere s k l)) (λ l. rw (held_here s k l))
+      returned_cases s k t (λ (x : Kept). x ≡ given (held_under s k) (kept (Ok tt) t s)) (λ l. rw (held_nowhere s k l)) (λ l. rw (held_here s k l))
 
   dropped_good : Good (dropped s k t).store
   dropped_good =
@@ -55,13 +54,13 @@ module _ (s : Store) (good : Good s) (k : Name) (t : Tally) where
       not_there l true e = held_none s n (λ i li. fails _ (λ h. never (holds_as s i n k (same_sym k n e) h) ((held_first s k).before i (omega arith))))
       not_there l false e = refl
 
-  dropped_answer : (dropped s k t).answer ≡ (given (held_under s k) (kept Done t s)).answer
+  dropped_answer : (dropped s k t).answer ≡ (given (held_under s k) (kept (Ok tt) t s)).answer
   dropped_answer =
-      dropped_cases s k t (λ (x : Kept). x.answer ≡ (given (held_under s k) (kept Done t s)).answer) (λ l. rw (held_nowhere s k l)) (λ l. rw (held_here s k l))
+      dropped_cases s k t (λ (x : Kept). x.answer ≡ (given (held_under s k) (kept (Ok tt) t s)).answer) (λ l. rw (held_nowhere s k l)) (λ l. rw (held_here s k l))
 
 -- ---- every history
 
-empty_used : (i : ℕ) → i < 16 → (place_at empty_store i).used ≡ false
+empty_used : (i : ℕ) → i < 16 → (used_in (place_at empty_store i)) ≡ false
 empty_used i l = rw (get_or-replicate 16 i freed _ l)
 
 empty_holds : (n : Name) (i : ℕ) → i < 16 → holds empty_store n i ≡ false
@@ -96,10 +95,10 @@ pub returning_gives : (t : Tally) (h : List Operation) (n : Name) → after t (r
 unfolding after
 returning_gives t h n =
     returned-given (after t h).store (after_good t h) n (after t h).tally
-    ∙ ap (λ (o : Option Tally). given o (kept Done (after t h).tally (after t h).store)) (held_saved t h n)
+    ∙ ap (λ (o : Option Tally). given o (kept (Ok tt) (after t h).tally (after t h).store)) (held_saved t h n)
     ∙ as_given (last_saved t n h) (after t h)
   where
-    as_given : (o : Option Tally) (x : Kept) → given o (kept Done x.tally x.store) ≡ given o x
+    as_given : (o : Option Tally) (x : Kept) → given o (kept (Ok tt) x.tally x.store) ≡ given o x
     as_given (some u) x = refl
     as_given none x = refl
 
@@ -139,7 +138,7 @@ module _ (t : Tally) (h : List Operation) where
 
   module _ (n : Name) where
     -- "26, sixteen other names are held, when saving"
-    pub sixteen_refused : Sixteen t h n → (after t (saving n ∷ h)).answer ≡ Refused NamesFull
+    pub sixteen_refused : Sixteen t h n → (after t (saving n ∷ h)).answer ≡ Err NamesFull
     unfolding after
     sixteen_refused x = ⊎_elim
         (λ (l : 16 ≤ room_for s n). rw (← full s n (after t h).tally refl l))
@@ -152,7 +151,7 @@ module _ (t : Tally) (h : List Operation) where
         (le_or_lt 16 (room_for s n))
 
     -- and only then
-    pub refused_sixteen : (after t (saving n ∷ h)).answer ≡ Refused NamesFull → Sixteen t h n
+    pub refused_sixteen : (after t (saving n ∷ h)).answer ≡ Err NamesFull → Sixteen t h n
     unfolding after
     refused_sixteen e = ⊎_elim
         (λ (l : 16 ≤ room_for s n). held_cases s n (Sixteen t h n)
@@ -161,12 +160,12 @@ module _ (t : Tally) (h : List Operation) where
         (λ (l : room_for s n < 16). let z : ◌≡◌ {A = ℕ} 0 1 = cc (ap (λ (x : Kept). x.answer) (saves s n (after t h).tally refl l)) in absurd (omega arith))
         (le_or_lt 16 (room_for s n))
       where
-        whole : ((i : ℕ) → i < 16 → (place_at s i).used ≡ true) → ((i : ℕ) → i < 16 → holds s n i ≡ false) → Sixteen t h n
+        whole : ((i : ℕ) → i < 16 → (used_in (place_at s i)) ≡ true) → ((i : ℕ) → i < 16 → holds s n i ≡ false) → Sixteen t h n
         whole used away = record {
-          names = λ i. (place_at s i).name;
+          names = λ i. (name_in (place_at s i));
           held = record {
-            held = λ i l. held_at_place (place_at s i).name i l (both (used i l) (same_refl (place_at s i).name));
-            different = λ i j li lj same. (after_good t h).alone (place_at s j).name i j li lj (both (used i li) same) (both (used j lj) (same_refl (place_at s j).name));
+            held = λ i l. held_at_place (name_in (place_at s i)) i l (both (used i l) (same_refl (name_in (place_at s i))));
+            different = λ i j li lj same. (after_good t h).alone (name_in (place_at s j)) i j li lj (both (used i li) same) (both (used j lj) (same_refl (name_in (place_at s j))));
           };
           other = λ i l. fails _ (λ same. never (both (used i l) same) (away i l));
         }

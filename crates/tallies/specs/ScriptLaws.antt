@@ -1,5 +1,5 @@
 -- Runs of scripts, step by step. Assumes nothing.
-use Rattle.std.specs.Prelude.{ℕ, suc, ◌+◌, ◌≤◌, ◌<◌, ◌≡◌, Bool, List, eqb, ltb, get_or, set}
+use Rattle.std.specs.Prelude.{ℕ, suc, ◌+◌, ◌≤◌, ◌<◌, ◌≡◌, Bool, List, eqb, ltb, get_or, set, Ok}
 use Rattle.std.proofs.Math.Path.{refl, sym, ap}
 use Rattle.std.proofs.Common.{◌∙◌, ⊎_elim, zero-add, add-one, arith, below_more}
 use Rattle.std.proofs.Math.Bool.{true, false, cond}
@@ -12,7 +12,6 @@ use Rattle.words.specs.Search.{first_where_lem}
 use Rattle.words.specs.SumLaws.{le_or_lt, length-tabulate, get_or-tabulate}
 use Rattle.words.specs.Written.{Written, written_none, written_more}
 use Rattle.refusals.specs.Refusals.{answer_number}
-use Rattle.refusals.specs.declared.Answer.TheVariants.{Done}
 use Rattle.tally.specs.declared.Tally.{Tally}
 use Rattle.tally.specs.Counts.{tallied}
 use Rattle.tallies.specs.declared.Kept.{Kept}
@@ -73,7 +72,7 @@ module _ (s : List ℕ) (a : ℕ) (h : 0 < size_at s a) where
       (le_or_lt (byte s a) 3)
 
 module _ (s : List ℕ) (a : ℕ) (x : Kept) where
-  pub counts : byte s a ≡ 0 → kept Done (tallied (byte s (a + 1)) x.tally) x.store ≡ operated (operation_at s a) x
+  pub counts : byte s a ≡ 0 → kept (Ok tt) (tallied (byte s (a + 1)) x.tally) x.store ≡ operated (operation_at s a) x
   unfolding operation_at
   counts e = rw (eq-eqb (byte s a) 0 e)
 
@@ -102,7 +101,7 @@ pub record Running (s : List ℕ) (t : Tally) (before now : List ℕ) (at i : �
   pub passed : (q : ℕ) → q < i → eqb (size_at s (position s q)) 0 ≡ false
   pub written : Written 0 0 i (answer_to s t) before now
 
-pub running_starts : (s : List ℕ) (t : Tally) (before : List ℕ) → Running s t before before 0 0 (kept Done t empty_store)
+pub running_starts : (s : List ℕ) (t : Tally) (before : List ℕ) → Running s t before before 0 0 (kept (Ok tt) t empty_store)
 unfolding position history after
 running_starts s t before = record {
   room = omega arith;

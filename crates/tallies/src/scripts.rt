@@ -5,7 +5,7 @@ ghost use Rattle.tallies.specs.History.{operated};
 ghost use Rattle.tallies.specs.Script.{Runs, RunsLent, size_of, size_at, name_at, operation_at};
 
 use crate::{Kept, Name, done, drop_name, empty, return_to, save};
-use refusals::Answer;
+use refusals::Refusal;
 use tally::{Tally, counted, of_counts, put};
 
 // How many operations a run made, and the tally after them.
@@ -48,16 +48,9 @@ fn name_at(script: &[u8], from: usize) -> Name
     ensures { result ≡ name_at script.now from }
 {
     let mut bytes = [0u8; 8];
-    for i in 0..8 {
-        bytes[i] = script[from + i];
-    }
+    let end = from + 8;
+    bytes.copy_from_slice(&script[from..end]);
     Name { bytes }
-}
-
-fn wide(b: u8) -> usize
-    ensures { result ≡ b }
-{
-    b as usize
 }
 
 // Makes the operation at a position, after what the one before it left.
@@ -69,7 +62,7 @@ fn operate(script: &[u8], at: usize, last: Kept) -> Kept
     let store = last.store;
     let code = script[at];
     if code == 0 {
-        return done(counted(tally, wide(script[at + 1])), store);
+        return done(counted(tally, usize::from(script[at + 1])), store);
     }
     let name = name_at(script, at + 1);
     match code {
@@ -79,12 +72,12 @@ fn operate(script: &[u8], at: usize, last: Kept) -> Kept
     }
 }
 
-fn number(answer: Answer) -> u8
+fn number(answer: Result<(), Refusal>) -> u8
     ensures { result ≡ answer_number answer }
 {
     match answer {
-        Answer::Done => 0,
-        Answer::Refused(why) => refusals::number(why),
+        Ok(()) => 0,
+        Err(why) => refusals::number(why),
     }
 }
 
@@ -100,13 +93,12 @@ pub fn run(script: &[u8], answers: &mut [u8], tally: Tally) -> Ran
     ensures { Runs script.now tally answers.old answers.new result }
 {
     let mut last = Kept {
-        answer: Answer::Done,
+        answer: Ok(()),
         tally,
         store: empty(),
     };
     let mut at = 0;
-    let mut made = 0;
-    while made < answers.len() {
+    for made in 0..answers.len() {
         let size = size_at(script, at);
         if size == 0 {
             return ended(made, last);
@@ -115,9 +107,8 @@ pub fn run(script: &[u8], answers: &mut [u8], tally: Tally) -> Ran
         let answer = last.answer;
         answers[made] = number(answer);
         at += size;
-        made += 1;
     }
-    ended(made, last)
+    ended(answers.len(), last)
 }
 
 // Runs a script on lent counts. Where these are not 32, it writes nothing and answers the greatest number.

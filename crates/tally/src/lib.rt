@@ -6,7 +6,7 @@ ghost use Rattle.tally.specs.Counts.{tallied};
 
 // A count for each of the answers 0 to 31.
 #[repr(C)]
-#[derive(Clone, Copy)]
+#[derive(Clone, Copy, Debug, PartialEq, Eq)]
 pub struct Tally {
     pub counts: [u32; 32],
 }
@@ -38,9 +38,7 @@ pub fn of_counts(counts: &[u32]) -> Tally
     ensures { result.counts ≡ counts.now }
 {
     let mut own = [0u32; 32];
-    for i in 0..32 {
-        own[i] = counts[i];
-    }
+    own.copy_from_slice(counts);
     Tally { counts: own }
 }
 
@@ -49,7 +47,5 @@ pub fn put(t: Tally, counts: &mut [u32])
     requires { length counts.old ≡ 32 }
     ensures { counts.new ≡ t.counts }
 {
-    for i in 0..32 {
-        counts[i] = t.counts[i];
-    }
+    counts.copy_from_slice(&t.counts);
 }

@@ -1,13 +1,14 @@
 -- Laws of text: texts put one after the other, decimal numbers, and how long each is. Assumes nothing.
 use Rattle.std.specs.Prelude.{ℕ, zero, suc, ◌+◌, ◌-◌, ◌*◌, ◌/◌, ◌%◌, ◌^◌, ◌≤◌, ◌<◌, ◌≡◌, refl, cond, List, [], ◌∷◌, ◌++◌, ltb, length, get_or, take, drop, set}
-use Rattle.std.proofs.Common.{mod-eq_of_lt, add-one, arith, sym, ap, ◌∙◌, subst, append_assoc, length-append, length-drop, length-take, drop-drop, drop-set-lt, ext_get_or, get_or-drop, get_or-take, get_or-append-add, length-take-le, take-suc-set, lt-ltb, le-ltb}
+use Rattle.std.proofs.Common.{mod-eq_of_lt, add-one, arith, sym, ap, ◌∙◌, subst, append_assoc, append-nil, length-append, length-drop, length-take, drop-drop, drop-set-lt, ext_get_or, get_or-drop, get_or-take, get_or-append-add, length-take-le, take-suc-set, lt-ltb, le-ltb}
 use Rattle.std.proofs.Math.Decide.{dec_lt}
 use Rattle.std.proofs.Math.ListN.{get_or-append}
 use Rattle.words.specs.Sum.{tabulate}
 use Rattle.words.specs.SumLaws.{length-tabulate, get_or-tabulate}
 use Rattle.words.specs.Written.{Written}
 use Rattle.text.specs.Numbers.{ten_digits, digits_of, decimal, hex_of}
-use Rattle.text.specs.Texts.{Appended}
+use Rattle.text.specs.Texts.{Appended, Added}
+use Rattle.text.specs.declared.Writer.{Writer}
 
 -- ---- texts one after the other
 
@@ -61,6 +62,13 @@ pub appended_within : {before after text : List ℕ} {at end : ℕ} → Appended
 appended_within {before} {after} {text} {at} {end} a h =
     omega (arith, ap length a.holds, length-take end after, length-append (take at before) text, length-take-le at before h, a.ends)
 
+-- nothing put
+pub added_none : (w : Writer) → Added [] w w
+added_none w = record { appended = record { ends = omega arith; holds = sym (append-nil (take w.at w.out.now)); past = refl }; long = refl; same = refl }
+
+pub added_also : {w w' w'' : Writer} {t u : List ℕ} → Added t w w' → Added u w' w'' → Added (t ++ u) w w''
+added_also x y = record { appended = then_also x.appended y.appended; long = y.long ∙ x.long; same = y.same ∙ x.same }
+
 -- ---- decimal numbers
 
 -- turns beyond the number change nothing
@@ -80,6 +88,25 @@ decimal_small n h = rw (lt-ltb n 10 h, mod-eq_of_lt h)
 pub decimal_more : (n : ℕ) → 10 ≤ n → decimal n ≡ decimal (n / 10) ++ ((48 + n % 10) ∷ [])
 unfolding decimal digits_of
 decimal_more n h = rw (le-ltb n 10 h, digits_turns n (suc (n / 10)) (n / 10) (omega arith) (omega arith))
+
+-- the digits before the last
+abbrev pub digits_before : ℕ → List ℕ
+digits_before n = cond (ltb n 10) [] (decimal (n / 10))
+
+pub before_small : (n : ℕ) → n < 10 → digits_before n ≡ []
+before_small n h = rw (lt-ltb n 10 h)
+
+pub before_more : (n : ℕ) → 10 ≤ n → digits_before n ≡ decimal (n / 10)
+before_more n h = rw (le-ltb n 10 h)
+
+pub decimal_last : (n : ℕ) → decimal n ≡ digits_before n ++ ((48 + n % 10) ∷ [])
+decimal_last n = elim (dec_lt n 10) [
+  | yes l ↦ rw (decimal_small n l, before_small n l, mod-eq_of_lt l)
+  | no m ↦ rw (before_more n (omega arith)) (decimal_more n (omega arith))
+]
+
+pub last_length : (n : ℕ) → length (decimal n) ≡ length (digits_before n) + 1
+last_length n = ap length (decimal_last n) ∙ length-append (digits_before n) ((48 + n % 10) ∷ [])
 
 -- ---- how long each text is
 

@@ -3,7 +3,7 @@
 
 ghost use Rattle.std.specs.Prelude.{◌≡◌, [], ◌∷◌, ◌+◌, ◌-◌, ◌/◌, ◌%◌, ◌^◌, ◌≤◌, ◌<◌, length};
 ghost use Rattle.text.specs.Numbers.{ten_digits, decimal};
-ghost use Rattle.text.specs.Texts.{Appended};
+ghost use Rattle.text.specs.Texts.{Added};
 
 const POWERS: [u32; 10] = [
     1000000000, 100000000, 10000000, 1000000, 100000, 10000, 1000, 100, 10, 1,
@@ -17,43 +17,50 @@ fn ten_digit(n: u32, i: usize) -> u8
     48 + (n / POWERS[i] % 10) as u8
 }
 
-// The ten decimal digits of n.
-pub fn put_ten(n: u32, out: &mut [u8], at: usize) -> usize
-    requires { at + 10 ≤ length out.old }
-    ensures { Appended out.old at (ten_digits n) result out.new }
-{
-    for i in 0..10 {
-        out[at + i] = ten_digit(n, i);
-    }
-    at + 10
+// A buffer that is filled from its front: the next byte goes to `at`.
+#[derive(Drop)]
+pub struct Writer<'a> {
+    pub out: &'a mut [u8],
+    pub at: usize,
 }
 
-pub fn put_byte(b: u8, out: &mut [u8], at: usize) -> usize
-    requires { at < length out.old }
-    ensures { Appended out.old at (b ∷ []) result out.new }
-{
-    out[at] = b;
-    at + 1
-}
-
-pub fn put_text(text: &[u8], out: &mut [u8], at: usize) -> usize
-    requires { at + length text.now ≤ length out.old }
-    ensures { Appended out.old at text.now result out.new }
-{
-    for i in 0..text.len() {
-        out[at + i] = text[i];
+impl Writer<'_> {
+    // The ten decimal digits of n.
+    pub fn put_ten(&mut self, n: u32)
+        requires { self.old.at + 10 ≤ length self.old.out.now }
+        ensures { Added (ten_digits n) self.old self.new }
+    {
+        for i in 0..10 {
+            self.out[self.at + i] = ten_digit(n, i);
+        }
+        self.at += 10;
     }
-    at + text.len()
-}
 
-// A number in decimal.
-pub fn put_decimal(n: u64, out: &mut [u8], at: usize) -> usize
-    requires { at + length (decimal n) ≤ length out.old }
-    ensures { Appended out.old at (decimal n) result out.new }
-{
-    if n < 10 {
-        return put_byte(48 + n as u8, out, at);
+    pub fn put_byte(&mut self, b: u8)
+        requires { self.old.at < length self.old.out.now }
+        ensures { Added (b ∷ []) self.old self.new }
+    {
+        self.out[self.at] = b;
+        self.at += 1;
     }
-    let next = put_decimal(n / 10, out, at);
-    put_byte(48 + (n % 10) as u8, out, next)
+
+    pub fn put_text(&mut self, text: &[u8])
+        requires { self.old.at + length text.now ≤ length self.old.out.now }
+        ensures { Added text.now self.old self.new }
+    {
+        let end = self.at + text.len();
+        self.out[self.at..end].copy_from_slice(text);
+        self.at = end;
+    }
+
+    // A number in decimal.
+    pub fn put_decimal(&mut self, n: u64)
+        requires { self.old.at + length (decimal n) ≤ length self.old.out.now }
+        ensures { Added (decimal n) self.old self.new }
+    {
+        if 9 < n {
+            self.put_decimal(n / 10);
+        }
+        self.put_byte(48 + (n % 10) as u8);
+    }
 }

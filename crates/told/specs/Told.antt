@@ -1,11 +1,11 @@
 -- What a reading leaves and tells. Assumes nothing.
-use Rattle.std.specs.Prelude.{ℕ, ◌≡◌, true, List, ℤ}
+use Rattle.std.specs.Prelude.{ℕ, ◌≡◌, true, List, ℤ, Result, Ok, Err}
 use Rattle.area.specs.Area.{Front, SameFront}
 use Rattle.rule.specs.Reading.{Outcome, accepted, refused}
 use Rattle.told.specs.declared.Noise.{Noise}
 use Rattle.told.specs.declared.Noise.TheVariants.{Tie, Flipping, Unsettled, TooManyLeaves, Erased}
-use Rattle.told.specs.declared.Verdict.{Verdict}
-use Rattle.told.specs.declared.Verdict.TheVariants.{Accepted, Refused}
+use Rattle.told.specs.declared.Accepted.{Accepted}
+use Rattle.told.specs.declared.Unread.{Unread}
 use Rattle.told.specs.declared.Told.{Told}
 
 -- "9: tie at the order asked for, 0 or 1. 10: still flipping at the round limit. 11: settled on no codeword. 12: leaf limit too small."
@@ -25,10 +25,21 @@ abbrev pub numbers_of : Outcome → Numbers
 numbers_of (accepted d k l) = numbers 0 k l
 numbers_of (refused e k l) = numbers e k l
 
+-- the code's answer
+abbrev pub Verdict : Type 0
+Verdict = Result Accepted Unread
+
+-- accepted after k rounds and l leaves, and refused after them
+abbrev pub as_accepted : ℕ → ℕ → Verdict
+as_accepted k l = Ok (record { rounds = k; leaves = l })
+
+abbrev pub as_refused : Noise → ℕ → ℕ → Verdict
+as_refused why k l = Err (record { why = why; rounds = k; leaves = l })
+
 -- the numbers of each case of the code's answer
 abbrev pub numbers_in : Verdict → Numbers
-numbers_in (Accepted k l) = numbers 0 k l
-numbers_in (Refused why k l) = numbers (noise_number why) k l
+numbers_in (Ok a) = numbers 0 a.rounds a.leaves
+numbers_in (Err u) = numbers (noise_number u.why) u.rounds u.leaves
 
 -- the decoded word stands in the first n numbers, where there is one
 abbrev pub Holds : ℕ → Outcome → List ℤ → Type 0

@@ -8,11 +8,9 @@ use Rattle.refusals.specs.Refusals.{area_kept}
 use Rattle.rule.specs.Reading.{Outcome, accepted, constant, leaves_of}
 use Rattle.rule.specs.Decoding.{limited}
 use Rattle.rule.proofs.DecodingLaws.{limited_above, limited_within}
-use Rattle.told.specs.Told.{noise_number, numbers_of, numbers_in, Holds, Read, Kept}
+use Rattle.told.specs.Told.{noise_number, numbers_of, Verdict, as_accepted, as_refused, numbers_in, Holds, Read, Kept}
 use Rattle.told.specs.declared.Noise.{Noise}
 use Rattle.told.specs.declared.Noise.TheVariants.{Tie, Flipping, Unsettled, TooManyLeaves, Erased}
-use Rattle.told.specs.declared.Verdict.{Verdict}
-use Rattle.told.specs.declared.Verdict.TheVariants.{Accepted, Refused}
 use Rattle.told.specs.declared.Told.{Told}
 
 -- the noise is 9 and above
@@ -47,7 +45,7 @@ module _ {n : ℕ} {a : Verdict} {ys : List ℤ} {t : Told} (e : (t.answer ≡ a
   changed_tells read = (changed_reads read, changed_keeps)
 
 -- an area of one value throughout
-pub constant_read : (m : ℕ) {v k : ℕ} {ys : List ℤ} → v < 2 → k ≡ 2 ^ m → ys ≡ replicate k (pos v) → Read (2 ^ m) (accepted (constant m v) 0 0) ys (Accepted 0 0)
+pub constant_read : (m : ℕ) {v k : ℕ} {ys : List ℤ} → v < 2 → k ≡ 2 ^ m → ys ≡ replicate k (pos v) → Read (2 ^ m) (accepted (constant m v) 0 0) ys (as_accepted 0 0)
 constant_read m {v} {k} {ys} h ek e = record {
   said = refl;
   word = record {
@@ -63,5 +61,5 @@ module _ {n left : ℕ} (ys : List ℤ) (o : Outcome) where
   pub read_within : {a : Verdict} → leaves_of o ≤ left → numbers_in a ≡ numbers_of o → Holds n o ys → Read n (limited left o) ys a
   read_within h e w = rw (limited_within left o h) (record { said = e; word = w })
 
-  pub read_above : left < leaves_of o → Read n (limited left o) ys (Refused TooManyLeaves 0 left)
+  pub read_above : left < leaves_of o → Read n (limited left o) ys (as_refused TooManyLeaves 0 left)
   read_above h = rw (limited_above left o h) (record { said = refl; word = tt })

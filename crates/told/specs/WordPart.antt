@@ -6,9 +6,8 @@ use Rattle.words.specs.Parts.{part_length, at-part_of, back_length, back_within}
 use Rattle.area.specs.Area.{at, Bits, SameFront, word_of}
 use Rattle.area.proofs.AreaLaws.{word_of_same}
 use Rattle.rule.specs.Reading.{Outcome, accepted, refused}
-use Rattle.told.specs.Told.{Holds, Read, Kept}
+use Rattle.told.specs.Told.{Verdict, Holds, Read, Kept}
 use Rattle.told.specs.declared.Told.{Told}
-use Rattle.told.specs.declared.Verdict.{Verdict}
 
 -- the first k numbers, of which the first n are the word
 module _ {n k : ℕ} (xs : List ℤ) (within : n ≤ k) (room : k ≤ length xs) where

@@ -2,9 +2,10 @@
 #![tactic(auto)]
 
 ghost use Rattle.std.specs.Prelude.{false, ◌≡◌};
+ghost use Rattle.told.specs.Told.{as_refused};
 
 // Document 01, "The noise": why a reading gives no word. Of document 02's confidences, that one of them ended as 0.
-#[derive(Clone, Copy)]
+#[derive(Clone, Copy, Debug, PartialEq, Eq)]
 pub enum Noise {
     Tie,
     Flipping,
@@ -13,26 +14,46 @@ pub enum Noise {
     Erased,
 }
 
-// What a reading answers, with its rounds and its leaf count.
-#[derive(Clone, Copy)]
-pub enum Verdict {
-    Accepted(usize, usize),
-    Refused(Noise, usize, usize),
+// What a reading that gives a word answers.
+#[derive(Clone, Copy, Debug, PartialEq, Eq)]
+pub struct Accepted {
+    pub rounds: usize,
+    pub leaves: usize,
+}
+
+// What a reading that gives no word answers.
+#[derive(Clone, Copy, Debug, PartialEq, Eq)]
+pub struct Unread {
+    pub why: Noise,
+    pub rounds: usize,
+    pub leaves: usize,
 }
 
 // What a reading tells the round that started it: its answer, and whether its decoded word is the word it was given.
-#[derive(Clone, Copy)]
+#[derive(Clone, Copy, Debug, PartialEq, Eq)]
 pub struct Told {
-    pub answer: Verdict,
+    pub answer: Result<Accepted, Unread>,
+    // Beside the answer, no Option: no value depends on it.
     pub kept: bool,
 }
 
 // An answer that says nothing of the word given.
-pub fn changed(answer: Verdict) -> Told
+pub fn changed(answer: Result<Accepted, Unread>) -> Told
     ensures { (result.answer ≡ answer) × (result.kept ≡ false) }
 {
     Told {
         answer,
         kept: false,
     }
+}
+
+// A reading that gives no word, and says nothing of the word given.
+pub fn refused(why: Noise, rounds: usize, leaves: usize) -> Told
+    ensures { (result.answer ≡ as_refused why rounds leaves) × (result.kept ≡ false) }
+{
+    changed(Err(Unread {
+        why,
+        rounds,
+        leaves,
+    }))
 }

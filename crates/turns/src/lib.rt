@@ -9,7 +9,7 @@ use std::io::{Read, Write};
 
 // What is kept from turn to turn: how many bytes the buffer holds, whether the input has ended with them, the lines and the accepted
 // records counted, and whether to go on.
-#[derive(Clone, Copy)]
+#[derive(Clone, Copy, Debug, PartialEq, Eq)]
 pub struct State {
     pub held: usize,
     pub last: bool,
@@ -73,9 +73,8 @@ pub fn filled<R: Read>(from: &mut Stream<R>, s: State, buffer: &mut [u8]) -> Sta
     State {
         held: held + n,
         last: n == 0,
-        records: s.records,
-        accepted: s.accepted,
         more: true,
+        ..s
     }
 }
 
@@ -87,6 +86,7 @@ pub fn read_full<R: Read>(from: &mut Stream<R>, buffer: &mut [u8]) -> usize
     ensures failing { from.new.failed ≡ false → from.old.failed ≡ false }
 {
     let mut held = 0;
+    // By what is held: each read brings as many bytes as it likes.
     while held < buffer.len() {
         let n = read_more(from, buffer, held);
         if n == 0 {
@@ -114,9 +114,5 @@ pub fn sent<W: Write>(to: &mut Stream<W>, bytes: &[u8]) -> bool
 pub fn plus(a: u64, b: usize) -> u64
     ensures { result ≡ capped (a + b) }
 {
-    let more = b as u64;
-    if u64::MAX - a < more {
-        return u64::MAX;
-    }
-    a + more
+    a.saturating_add(b as u64)
 }

@@ -10,6 +10,7 @@ fn unpack_byte(b: u8, bits: &mut [u8])
     requires { length bits.old ≡ 8 }
     ensures { bits.new ≡ tabulate 8 (λ i. b / 2 ^ (7 - i) % 2) }
 {
+    // By index: a place asks for its own shift.
     for i in 0..8 {
         bits[i] = (b >> (7 - i)) % 2;
     }
@@ -20,8 +21,8 @@ pub fn unpack(part: &[u8], word: &mut [u8])
     requires { (length word.old % 8 ≡ 0) × (5 + length word.old / 8 ≤ length part.now) }
     ensures { word.new ≡ tabulate (length word.old) (packed_bit part.now) }
 {
-    let bytes = word.len() / 8;
-    for k in 0..bytes {
+    // Counted in bytes, which fill eight places each.
+    for k in 0..word.len() / 8 {
         let at = 8 * k;
         unpack_byte(part[5 + k], &mut word[at..at + 8]);
     }

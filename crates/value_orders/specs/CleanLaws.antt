@@ -1,22 +1,20 @@
 -- Values that are a codeword already, as the code tests them. Assumes nothing.
-use Rattle.std.specs.Prelude.{ℕ, zero, suc, ◌+◌, ◌%◌, ◌^◌, ◌≤◌, ◌<◌, ◌≡◌, Bool, true, false, List, eqb, length, ℤ, pos, nat_abs}
+use Rattle.std.specs.Prelude.{ℕ, zero, suc, ◌+◌, ◌%◌, ◌^◌, ◌≤◌, ◌≡◌, Bool, true, false, List, eqb, length, ℤ, nat_abs, FitsSigned}
 use Rattle.std.proofs.Math.Path.{refl, sym, ap, ap₂}
-use Rattle.std.proofs.Common.{◌∙◌, arith, of_z}
+use Rattle.std.proofs.Common.{◌∙◌, arith}
 use Rattle.std.proofs.Math.Bool.{◌&&◌}
-use Rattle.std.specs.Int.Bits.{bit_xor}
 use Rattle.std.specs.Int.{w32}
 use Rattle.std.proofs.lemmas.Bool.{eqb-false, not-true}
 use Rattle.words.specs.Sum.{all_below, total}
 use Rattle.words.specs.SumLaws.{all_append, all_more, all_true, both_true}
 use Rattle.area.specs.Area.{at}
-use Rattle.area.proofs.AreaLaws.{bit_stored, is_bit, xor_stored}
-use Rattle.area.specs.Numbers.{stored, stored-eq}
+use Rattle.area.specs.Numbers.{fits_32}
+use Rattle.affine_test.specs.Marks.{Marked}
 use Rattle.code.specs.Code.{codeword_test}
 use Rattle.code.proofs.Codewords.{codeword_of_test}
 use Rattle.code.specs.FirstOrder.{levels_test, repeats, repeats_below}
 use Rattle.code.proofs.FirstOrderLaws.{levels_test_lem}
 use Rattle.hadamard.specs.Correlation.{constant_of}
-use Rattle.hadamard.specs.CorrelationLaws.{constant_of-lt}
 use Rattle.rule.specs.Reading.{accepted, order1}
 use Rattle.confidences.specs.Confidences.{signs_of}
 use Rattle.confidences.proofs.Clean.{clean_values}
@@ -109,13 +107,6 @@ module _ (m : ℕ) (xs : List ℤ) (some_places : 1 ≤ m) (few : m ≤ 10) (siz
 pub values_fewer : {n k : ℕ} {xs : List ℤ} → k ≤ n → Values n xs → Values k xs
 values_fewer l v = record { room = omega (arith, v.room); small = λ p h. v.small p (omega arith) }
 
--- the signs that were read at two places, added
-module _ {n : ℕ} {xs : List ℤ} (v : Values n xs) where
-  sign_at_lem : (i : ℕ) {a : ℤ} → i < n → a ≡ pos (constant_of (stored (at xs i))) → a ≡ pos (sign_at xs i)
-  sign_at_lem i l e = e ∙ ap (λ (z : ℤ). pos (constant_of z)) (stored-eq (at xs i) (omega (arith, v.small i l)))
-
-  pub signs_added : (i j : ℕ) {a b : ℤ} → i < n → j < n → a ≡ pos (constant_of (stored (at xs i))) → b ≡ pos (constant_of (stored (at xs j)))
-      → bit_xor (of_z w32 a) (of_z w32 b) ≡ (sign_at xs i + sign_at xs j) % 2
-  signs_added i j li lj ea eb =
-      ap₂ (λ (x y : ℤ). bit_xor (of_z w32 x) (of_z w32 y)) (sign_at_lem i li ea) (sign_at_lem j lj eb)
-      ∙ xor_stored (is_bit _ (constant_of-lt (at xs i))) (is_bit _ (constant_of-lt (at xs j))) ∙ bit_stored (is_bit _ (omega arith))
+-- values are numbers of 32 bits
+pub values_marked : {n : ℕ} {xs : List ℤ} → Values n xs → Marked (λ x. FitsSigned w32 x) n xs
+values_marked {xs = xs} v = record { room = v.room; each = λ p l. fits_32 (at xs p) (omega (arith, v.small p l)) }

@@ -1,25 +1,22 @@
 -- How rounds of confidences end in the area. Assumes nothing.
-use Rattle.std.specs.Prelude.{ℕ, ◌+◌, ◌^◌, ◌≤◌, ◌<◌, ◌≡◌, refl, Bool, true, false, List, length, ℤ, pos, nat_abs}
-use Rattle.std.proofs.Common.{sym, ◌∙◌, arith, get_or-take}
+use Rattle.std.specs.Prelude.{ℕ, Some, nat_eq, position, ◌+◌, ◌^◌, ◌≤◌, ◌<◌, ◌≡◌, refl, true, false, List, length, ℤ, pos, nat_abs}
+use Rattle.std.proofs.Common.{sym, ap₂, ◌∙◌, arith, get_or-take, length-take-le}
 use Rattle.std.proofs.Math.Path.{ap}
 use Rattle.std.proofs.Math.Dec.{eqb}
 use Rattle.words.specs.Sum.{first_where}
-use Rattle.words.specs.Search.{first_where_lem, where_ext}
-use Rattle.words.specs.SumLaws.{split_last}
 use Rattle.words.specs.Written.{Written}
 use Rattle.area.specs.Area.{at, Bits, Front, SameFront, word_of}
 use Rattle.area.proofs.AreaLaws.{front_bits, front_kept, front_word}
 use Rattle.area.specs.Numbers.{stored, stored-eq}
 use Rattle.code.specs.Code.{codeword_test}
 use Rattle.hadamard.specs.Correlation.{constant_of}
-use Rattle.told.specs.Told.{Read}
+use Rattle.told.specs.Told.{Read, Verdict, as_accepted, as_refused}
 use Rattle.told.specs.declared.Noise.TheVariants.{Erased, Unsettled}
-use Rattle.told.specs.declared.Verdict.{Verdict}
-use Rattle.told.specs.declared.Verdict.TheVariants.{Accepted, Refused}
 use Rattle.confidences.specs.Confidences.{cut, ended, lowest_zero, signs_of}
 use Rattle.confidences.proofs.Rounds.{bit_signs, signs_word, ended_zero, ended_codeword, ended_other}
 use Rattle.confidences.proofs.Signs.{cut_size}
 use Rattle.confidences.specs.Values.{front_of, Sums}
+use Rattle.value_orders.specs.FirstPlaces.{found_some, found_none}
 use Rattle.value_orders.specs.Leaves.{place_in}
 
 -- ---- a sum, where p of the new values were written
@@ -37,18 +34,6 @@ module _ {n p : ℕ} {f : ℕ → ℤ} {xs ys : List ℤ} (sums : Sums n xs) (w 
   pub cut_written : (z : ℤ) → z ≡ cut (stored (at ys (n + p))) → stored z ≡ cut (at xs (n + p))
   cut_written z e = stored-eq z (omega (arith, ap nat_abs e, cut_size (stored (at ys (n + p))))) ∙ e ∙ ap cut sum_read
 
--- ---- the search for the lowest place, of which p are passed
-
-module _ {p : ℕ} {f : ℕ → Bool} (passed : (q : ℕ) → q < p → f q ≡ false) where
-  pub passed_more : f p ≡ false → (q : ℕ) → q < p + 1 → f q ≡ false
-  passed_more e q l = split_last p (λ (i : ℕ). f i ≡ false) passed e q (omega arith)
-
-  pub found_here : {n : ℕ} → p < n → f p ≡ true → p ≡ first_where n f
-  found_here l e = first_where_lem (record { within = omega arith; before = passed; found = λ _. e })
-
-  pub found_none : {n : ℕ} → p ≡ n → p ≡ first_where n f
-  found_none e = first_where_lem (record { within = omega arith; before = passed; found = λ l. absurd (omega arith) })
-
 -- ---- the end
 
 -- what it tells: its answer, and the place
@@ -60,14 +45,22 @@ module _ (m r k l : ℕ) (xs : List ℤ) where
   x = front_of (2 ^ m) xs
 
   -- the place that was looked for in the area
-  pub zero_here : {n p : ℕ} → n ≡ 2 ^ m → p ≡ first_where n (λ q. eqb (nat_abs (at xs q)) 0) → p ≡ lowest_zero m x
-  unfolding lowest_zero
-  zero_here en e =
-      e ∙ ap (λ (i : ℕ). first_where i (λ q. eqb (nat_abs (at xs q)) 0)) en
-      ∙ where_ext (2 ^ m) _ _ (λ q h. ap (λ (z : ℤ). eqb (nat_abs z) 0) (sym (get_or-take (2 ^ m) xs q (pos 0) h)))
+  module _ {n : ℕ} (size : n ≡ 2 ^ m) (room : 2 ^ m ≤ length xs) where
+    front_long : length (front_of n xs) ≡ 2 ^ m
+    front_long = length-take-le n xs (omega (arith, size)) ∙ size
+
+    looked : first_where (length (front_of n xs)) (λ p. eqb (nat_abs (at (front_of n xs) p)) 0) ≡ lowest_zero m x
+    unfolding lowest_zero
+    looked = ap₂ (λ (i j : ℕ). first_where i (λ p. eqb (nat_abs (at (front_of j xs) p)) 0)) front_long size
+
+    pub zero_some : {p : ℕ} → position (λ z. nat_eq (nat_abs z) 0) (front_of n xs) ≡ Some p → (p ≡ lowest_zero m x) × (p < 2 ^ m)
+    zero_some e = let found = found_some _ _ e in (found.1 ∙ looked, omega (arith, found.0, front_long))
+
+    pub zero_none : ((p : ℕ) → position (λ z. nat_eq (nat_abs z) 0) (front_of n xs) ≡ Some p → ⊥) → 2 ^ m ≤ lowest_zero m x
+    zero_none e = omega (arith, found_none (λ (z : ℤ). nat_eq (nat_abs z) 0) (front_of n xs) e, front_long, looked)
 
   -- a place of value 0
-  pub ends_erased : {p : ℕ} {ys : List ℤ} → p ≡ lowest_zero m x → p < 2 ^ m → Ends m r k l x ys (Refused Erased k l) p
+  pub ends_erased : {p : ℕ} {ys : List ℤ} → p ≡ lowest_zero m x → p < 2 ^ m → Ends m r k l x ys (as_refused Erased k l) p
   ends_erased e h = rw (ended_zero m r x k l (omega (arith, e))) (record { said = refl; word = tt }, e)
 
   -- none
@@ -94,8 +87,8 @@ module _ (m r k l : ℕ) (xs : List ℤ) where
     word_is = front_word room_here signs_front
 
     module _ {zs : List ℤ} (kept : SameFront (2 ^ m) ys zs) where
-      pub ends_accepted : codeword_test m r (word_of (2 ^ m) ys) ≡ true → Ends m r k l x zs (Accepted k l) 0
+      pub ends_accepted : codeword_test m r (word_of (2 ^ m) ys) ≡ true → Ends m r k l x zs (as_accepted k l) 0
       ends_accepted e = rw (ended_codeword m r x k l none (rw word_is at e)) (record { said = refl; word = front_kept signs_front kept.same }, refl)
 
-      pub ends_unsettled : codeword_test m r (word_of (2 ^ m) ys) ≡ false → Ends m r k l x zs (Refused Unsettled k l) 0
+      pub ends_unsettled : codeword_test m r (word_of (2 ^ m) ys) ≡ false → Ends m r k l x zs (as_refused Unsettled k l) 0
       ends_unsettled e = rw (ended_other m r x k l none (rw word_is at e)) (record { said = refl; word = tt }, refl)

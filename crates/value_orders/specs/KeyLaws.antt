@@ -1,11 +1,11 @@
 -- Keys of 32 signed bits, as a search for the greatest computes them: 512 times a size, and a number below 512. Assumes nothing.
-use Rattle.std.specs.Prelude.{ℕ, ◌+◌, ◌-◌, ◌*◌, ◌%◌, ◌^◌, ◌<◌, ◌≡◌, refl, T, ℤ, pos, nat_abs, ◌+ℤ◌, ◌-ℤ◌, ◌*ℤ◌}
+use Rattle.std.specs.Prelude.{ℕ, zero, suc, ◌+◌, ◌-◌, ◌*◌, ◌%◌, ◌^◌, ◌<◌, ◌≡◌, refl, T, ℤ, pos, nat_abs, ◌+ℤ◌, ◌-ℤ◌, ◌*ℤ◌}
 use Rattle.std.proofs.Common.{ap, ap₂, ◌∙◌, arith, Fits, SFits, to_z, of_z, to_z-of_z, le-ltb}
 use Rattle.std.specs.Int.Signed.{mag, non_neg, quot_z, rem_z}
 use Rattle.std.specs.Int.{w32, w64}
 use Rattle.area.specs.Numbers.{stored, stored-eq, fits_32}
 use Rattle.peaks.specs.Casts.{size_held}
-use Rattle.peaks.specs.Stored.{as_it_is, lower_fits}
+use Rattle.peaks.specs.Stored.{as_it_is}
 
 -- ---- a number below 512, counted up and down
 
@@ -13,17 +13,13 @@ module _ {k : ℕ} (l : k < 512) where
   count_read : to_z w32 k ≡ pos k
   count_read = size_held k (omega arith)
 
-  pub up_fits : SFits w32 (to_z w32 k +ℤ pos 1)
-  up_fits = rw count_read (fits_32 _ (omega arith))
-
-  pub up_is : of_z w32 (to_z w32 k +ℤ pos 1) ≡ k + 1
-  up_is = ap (λ (z : ℤ). of_z w32 (z +ℤ pos 1)) count_read
-
-  pub down_fits : SFits w32 (to_z w32 k -ℤ pos 1)
-  down_fits = lower_fits 1 k (omega arith)
-
-  pub down_is : 0 < k → of_z w32 (to_z w32 k -ℤ pos 1) ≡ k - 1
-  down_is some = ap (λ (z : ℤ). of_z w32 (z -ℤ pos 1)) count_read ∙ rw (le-ltb k 1 some)
+  -- what is left to 511
+  pub down_is : of_z w32 (pos 511 -ℤ to_z w32 k) ≡ 511 - k
+  down_is = ap (λ (z : ℤ). of_z w32 (pos 511 -ℤ z)) count_read ∙ left k l
+    where
+      left : (k : ℕ) → k < 512 → of_z w32 (pos 511 -ℤ pos k) ≡ 511 - k
+      left zero l = refl
+      left (suc k) l = rw (le-ltb 511 (suc k) (omega arith)) refl
 
 -- ---- the key of a size z, which is n
 

@@ -8,4 +8,5 @@ pub mod SignLaws
 pub mod DoublingLaws
 pub mod CleanLaws
 pub mod OrderLaws
+pub mod FirstPlaces
 pub mod EndLaws

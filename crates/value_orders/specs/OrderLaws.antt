@@ -21,10 +21,9 @@ use Rattle.hadamard.specs.Peak.{peak}
 use Rattle.peaks.specs.Stored.{as_it_is, word_zero, zero_word}
 use Rattle.rule.specs.Reading.{Outcome, accepted, by_sum, constant, order0, order1, refused}
 use Rattle.rule.proofs.Order1.{order1_alone, order1_shared, sizes}
-use Rattle.told.specs.Told.{Read}
+use Rattle.told.specs.Told.{Read, as_accepted, as_refused}
 use Rattle.told.specs.ToldLaws.{constant_read}
 use Rattle.told.specs.declared.Noise.TheVariants.{Tie}
-use Rattle.told.specs.declared.Verdict.TheVariants.{Accepted, Refused}
 use Rattle.confidences.specs.Values.{Values, front_of}
 use Rattle.value_orders.specs.Leaves.{Leaf, LeafBits}
 
@@ -87,15 +86,15 @@ module _ (m : ℕ) (xs : List ℤ) (z : ℤ) (fits : mag z < 2 ^ 31) (n : ℕ) (
   by_zeros (pos (suc k)) n e = refl
   by_zeros (negsuc k) n e = absurd (omega arith)
 
-  pub zero_tie : {ys : List ℤ} → of_z w32 z ≡ 0 → Read (2 ^ m) (order0 m (at (front_of (2 ^ m) xs))) ys (Refused Tie 0 0)
+  pub zero_tie : {ys : List ℤ} → of_z w32 z ≡ 0 → Read (2 ^ m) (order0 m (at (front_of (2 ^ m) xs))) ys (as_refused Tie 0 0)
   zero_tie e = let none : nat_abs z ≡ 0 = zero_word held e in rw (order_is, by_tie z none) (record { said = refl; word = tt })
 
   module _ {k : ℕ} {ys : List ℤ} (ek : k ≡ 2 ^ m) where
-    pub zero_ones : lt_z (stored z) (pos 0) ≡ true → ys ≡ replicate k (pos 1) → Read (2 ^ m) (order0 m (at (front_of (2 ^ m) xs))) ys (Accepted 0 0)
+    pub zero_ones : lt_z (stored z) (pos 0) ≡ true → ys ≡ replicate k (pos 1) → Read (2 ^ m) (order0 m (at (front_of (2 ^ m) xs))) ys (as_accepted 0 0)
     zero_ones e w = rw (order_is, by_ones z (constant_of_negative z (rw (as_it_is fits) at e))) (constant_read m (lit< tt) ek w)
 
     pub zero_zeros : (of_z w32 z ≡ 0 → ⊥) → lt_z (stored z) (pos 0) ≡ false → ys ≡ replicate k (pos 0)
-        → Read (2 ^ m) (order0 m (at (front_of (2 ^ m) xs))) ys (Accepted 0 0)
+        → Read (2 ^ m) (order0 m (at (front_of (2 ^ m) xs))) ys (as_accepted 0 0)
     zero_zeros some e w =
         rw (order_is, by_zeros z (λ q. some (word_zero z q)) (constant_of_other z (rw (as_it_is fits) at e))) (constant_read m (lit< tt) ek w)
 
@@ -139,14 +138,14 @@ module _ (m : ℕ) (v : ℕ → ℤ) where
       })
       (λ g. absurd (false≢true (sym g.said))) f
 
-  pub first_tie : {ys zs : List ℤ} → LeafBits (2 ^ m) (order1 m v) ys false → Read (2 ^ m) (order1 m v) zs (Refused Tie 0 1)
+  pub first_tie : {ys zs : List ℤ} → LeafBits (2 ^ m) (order1 m v) ys false → Read (2 ^ m) (order1 m v) zs (as_refused Tie 0 1)
   first_tie {ys} {zs} f =
-      by_order1 (λ (o : Outcome). LeafBits (2 ^ m) o ys false → Read (2 ^ m) o zs (Refused Tie 0 1))
+      by_order1 (λ (o : Outcome). LeafBits (2 ^ m) o ys false → Read (2 ^ m) o zs (as_refused Tie 0 1))
       (λ u t g. absurd (false≢true g.said)) (λ g. record { said = refl; word = tt }) f
 
   pub first_word : {ys zs : List ℤ} → ((q : ℕ) → q < 2 ^ m → at zs q ≡ at ys q)
-      → LeafBits (2 ^ m) (order1 m v) ys true → Read (2 ^ m) (order1 m v) zs (Accepted 0 1)
+      → LeafBits (2 ^ m) (order1 m v) ys true → Read (2 ^ m) (order1 m v) zs (as_accepted 0 1)
   first_word {ys} {zs} e f =
-      by_order1 (λ (o : Outcome). LeafBits (2 ^ m) o ys true → Read (2 ^ m) o zs (Accepted 0 1))
+      by_order1 (λ (o : Outcome). LeafBits (2 ^ m) o ys true → Read (2 ^ m) o zs (as_accepted 0 1))
       (λ u t g. record { said = refl; word = record { size = g.word.size; each = λ q l. e q l ∙ g.word.each q l; bits = g.word.bits } })
       (λ g. absurd (false≢true (sym g.said))) f

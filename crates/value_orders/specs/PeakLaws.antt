@@ -1,5 +1,5 @@
 -- The peak of values whose halves are transformed, each in its place. Assumes nothing.
-use Rattle.std.specs.Prelude.{ℕ, suc, ◌+◌, ◌-◌, ◌^◌, ◌≤◌, ◌<◌, ◌≡◌, List, ℤ, pos, nat_abs, length, drop}
+use Rattle.std.specs.Prelude.{ℕ, suc, ◌+◌, ◌-◌, ◌^◌, ◌≤◌, ◌<◌, ◌≡◌, List, ℤ, pos, nat_abs, length, drop, Option}
 use Rattle.std.proofs.Common.{sym, ap, ◌∙◌, subst, mul-le-mul, arith, pow_mono, pow_pos, get_or-drop}
 use Rattle.std.proofs.Math.Decide.{dec_lt}
 use Rattle.std.proofs.Math.ListN.{get_or-eq_default}
@@ -75,7 +75,7 @@ module _ {k h : ℕ} {xs : List ℤ} (a : Halves k h xs) where
         back_to u b = omega arith
 
     -- the peak of the pairs is that of the values
-    pub back_peak : {p : Peak} → IsPeak (h + h) (pairs_joined h ys) p → IsPeak (2 ^ suc k) (correlation (suc k) (at xs)) p
-    back_peak {p} s =
-        subst (λ (r : ℕ). IsPeak r (correlation (suc k) (at xs)) p) (omega (arith, a.half))
+    pub back_peak : {o : Option Peak} → IsPeak (h + h) (pairs_joined h ys) o → IsPeak (2 ^ suc k) (correlation (suc k) (at xs)) o
+    back_peak {o} s =
+        subst (λ (r : ℕ). IsPeak r (correlation (suc k) (at xs)) o) (omega (arith, a.half))
         (peak_ext s (joined_whole k h (at xs) _ _ a.half first_at second_at))

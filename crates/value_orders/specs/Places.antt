@@ -1,5 +1,5 @@
 -- The greatest size of h pairs, with its last and its first place, by two keys: where the places agree it is met there alone. Assumes nothing.
-use Rattle.std.specs.Prelude.{ℕ, zero, suc, ◌+◌, ◌-◌, ◌*◌, ◌%◌, ◌≤◌, ◌<◌, ◌≡◌, false, ◌≢◌, ℤ}
+use Rattle.std.specs.Prelude.{ℕ, zero, suc, ◌+◌, ◌-◌, ◌*◌, ◌%◌, ◌≤◌, ◌<◌, ◌≡◌, ◌≢◌, ℤ, Option, None}
 use Rattle.std.proofs.Common.{sym, ap, ◌∙◌, subst, not-suc-le-zero, arith}
 use Rattle.words.specs.Sum.{greatest_below}
 use Rattle.hadamard.specs.Peak.{Alone, Shared, greatest_bound, greatest_met}
@@ -75,13 +75,13 @@ module _ (h : ℕ) (s : ℕ → ℕ) where
 
 -- ---- the peak of the sums and differences of the pairs x i, y i
 
-module _ {h : ℕ} (x y : ℕ → ℤ) (some : 0 < h) (few : h ≤ 512) {p : Peak} where
-  pub places_apart : first_place h (sizes x y) ≢ last_place h (sizes x y) → p.alone ≡ false → IsPeak (h + h) (joined h x y) p
+module _ {h : ℕ} (x y : ℕ → ℤ) (some : 0 < h) (few : h ≤ 512) where
+  pub places_apart : first_place h (sizes x y) ≢ last_place h (sizes x y) → IsPeak (h + h) (joined h x y) None
   places_apart ne = no_peak (h + h) (joined h x y) (pairs_share (joined_layout h x y) (two_places h (sizes x y) some few ne))
 
   pub places_meet :
-      {j : ℕ} → j ≡ last_place h (sizes x y) → first_place h (sizes x y) ≡ j → PeakAt j (h + j) (x j) (y j) p
-      → IsPeak (h + h) (joined h x y) p
+      {j : ℕ} {o : Option Peak} → j ≡ last_place h (sizes x y) → first_place h (sizes x y) ≡ j → PeakAt j (h + j) (x j) (y j) o
+      → IsPeak (h + h) (joined h x y) o
   places_meet {j} ej e k = searched_peak found (omega (arith, few, a.below)) (rw back k)
     where
       a : Alone h (sizes x y) j

@@ -1,5 +1,5 @@
 -- Words by the signs of numbers. Assumes nothing.
-use Rattle.std.specs.Prelude.{ℕ, ◌+◌, ◌%◌, ◌^◌, ◌<◌, ◌≡◌, refl, Bool, true, false, List, eqb, ℤ, pos, neg_ℤ, nat_abs, ◌-ℤ◌}
+use Rattle.std.specs.Prelude.{ℕ, ◌+◌, ◌%◌, ◌^◌, ◌<◌, ◌≡◌, refl, Bool, true, false, List, eqb, ℤ, pos, neg_ℤ, nat_abs, ◌-ℤ◌, Some, None}
 use Rattle.std.proofs.Common.{sym, ap, ◌∙◌, mod-lt, arith, SFits, of_z}
 use Rattle.std.specs.Int.Bits.{bit_and}
 use Rattle.std.specs.Int.Count.{ones}
@@ -51,16 +51,16 @@ module _ (z : ℤ) (fits : mag z < 2 ^ 31) where
   pub zero_test : eqb (of_z w32 z) 0 ≡ eqb (nat_abs z) 0
   zero_test = zero_read {x = z} (record { sfits = fits })
 
--- ---- order 1 from the peak p of the values v
+-- ---- order 1 from the peak of the values v
 
-module _ (m : ℕ) (v : ℕ → ℤ) {p : Peak} (k : IsPeak (2 ^ m) (correlation m v) p) where
-  pub leaf_tie : (bits : Bool) (ys : List ℤ) → p.alone ≡ false → LeafAs bits (2 ^ m) (order1 m v) ys false
-  leaf_tie true ys e = rw (peak_tie m v k e) (record { said = refl; word = tt })
-  leaf_tie false ys e = rw (peak_tie m v k e) (record { said = refl; word = tt })
+module _ (m : ℕ) (v : ℕ → ℤ) where
+  pub leaf_tie : (bits : Bool) (ys : List ℤ) → IsPeak (2 ^ m) (correlation m v) None → LeafAs bits (2 ^ m) (order1 m v) ys false
+  leaf_tie true ys k = rw (peak_tie m v k) (record { said = refl; word = tt })
+  leaf_tie false ys k = rw (peak_tie m v k) (record { said = refl; word = tt })
 
-  module _ (e : p.alone ≡ true) where
+  module _ {p : Peak} (k : IsPeak (2 ^ m) (correlation m v) (Some p)) where
     constant_is : nat_abs (stored p.constant) ≡ constant_of (correlation m v p.mask)
-    constant_is = ap nat_abs (bit_back (peak_bit m v k e) ∙ k.constant e)
+    constant_is = ap nat_abs (bit_back (peak_bit m v k) ∙ k.constant)
 
     -- its codeword was written as ys, a number f of each bit
     module _ {n : ℕ} {ys : List ℤ} (f : ℕ → ℤ) (size : n ≡ 2 ^ m)
@@ -72,7 +72,7 @@ module _ (m : ℕ) (v : ℕ → ℤ) {p : Peak} (k : IsPeak (2 ^ m) (correlation
       pub bits_word : ys ≡ tabulate n (λ q. pos ((nat_abs (stored p.constant) + ones (bit_and p.mask q)) % 2)) → LeafBits (2 ^ m) (order1 m v) ys true
       bits_word ey =
           let w = word_affine m p.mask (constant_of (correlation m v p.mask)) in
-          rw (peak_nearest m v k e)
+          rw (peak_nearest m v k)
           (record {
             said = refl;
             word = record { size = w.size; each = λ q l. each pos size ey q l ∙ ap pos (sym (bit-affine m p.mask _ q l)); bits = λ q l. w.bits q };
@@ -80,7 +80,7 @@ module _ (m : ℕ) (v : ℕ → ℤ) {p : Peak} (k : IsPeak (2 ^ m) (correlation
 
       pub leaf_word : ys ≡ tabulate n (λ q. neg_ℤ (pos ((nat_abs (stored p.constant) + ones (bit_and p.mask q)) % 2))) → Leaf (2 ^ m) (order1 m v) ys true
       leaf_word ey =
-          rw (peak_nearest m v k e)
+          rw (peak_nearest m v k)
           (record {
             said = refl;
             word = record {

@@ -1,6 +1,5 @@
 // How rounds of confidences end: the sums become the values, and the signs of the values after the last round the word.
-ghost use Rattle.std.specs.Prelude.{cond, ◌≡◌, ◌+◌, ◌*◌, ◌^◌, ◌≤◌, eqb, length, pos, nat_abs};
-ghost use Rattle.words.specs.Sum.{first_where};
+ghost use Rattle.std.specs.Prelude.{◌≡◌, ◌+◌, ◌*◌, ◌^◌, ◌≤◌, length, nat_abs, nat_eq, pos, position};
 ghost use Rattle.words.specs.Written.{Written};
 ghost use Rattle.area.specs.Area.{at};
 ghost use Rattle.told.specs.Told.{Read};
@@ -10,13 +9,13 @@ ghost use Rattle.confidences.specs.Values.{front_of, Sums};
 ghost use Rattle.value_orders.specs.Leaves.{place_in};
 
 use crate::signs::to_bits;
-use told::{Noise, Verdict};
+use told::{Accepted, Noise, Unread};
 use value_steps::magnitudes::cut;
 
 // What a reading of confidences answers, and the place that 17 names; 0 where the answer is another.
-#[derive(Clone, Copy)]
+#[derive(Clone, Copy, Debug, PartialEq, Eq)]
 pub struct Ended {
-    pub answer: Verdict,
+    pub answer: Result<Accepted, Unread>,
     pub place: usize,
 }
 
@@ -31,19 +30,12 @@ pub fn renew(n: usize, area: &mut [i32])
     }
 }
 
-// The lowest place of value 0; n where there is none.
-fn lowest_zero(n: usize, area: &[i32]) -> usize
+// The lowest place of value 0 among the first n.
+fn lowest_zero(n: usize, area: &[i32]) -> Option<usize>
     requires { n ≤ length area.now }
-    ensures { result ≡ first_where n (λ q. eqb (nat_abs (at area.now q)) 0) }
+    ensures { result ≡ position (λ z. nat_eq (nat_abs z) 0) (front_of n area.now) }
 {
-    let mut p = 0;
-    while p < n {
-        if area[p] == 0 {
-            return p;
-        }
-        p += 1;
-    }
-    p
+    area[..n].iter().position(|z| *z == 0)
 }
 
 // The answer for the values after k rounds, with the leaves used: their signs, where none is 0 and they are a codeword.
@@ -53,22 +45,32 @@ pub fn finish(m: usize, r: usize, k: usize, used: usize, area: &mut [i32]) -> En
     ensures place { result.place ≡ place_in (ended m r (front_of (2 ^ m) area.old) k used) (lowest_zero m (front_of (2 ^ m) area.old)) }
 {
     let n = words::size(m);
-    let p = lowest_zero(n, area);
-    if p < n {
+    if let Some(p) = lowest_zero(n, area) {
         return Ended {
-            answer: Verdict::Refused(Noise::Erased, k, used),
+            answer: Err(Unread {
+                why: Noise::Erased,
+                rounds: k,
+                leaves: used,
+            }),
             place: p,
         };
     }
     to_bits(n, area);
     if settled::holds_codeword(m, r, area) {
         return Ended {
-            answer: Verdict::Accepted(k, used),
+            answer: Ok(Accepted {
+                rounds: k,
+                leaves: used,
+            }),
             place: 0,
         };
     }
     Ended {
-        answer: Verdict::Refused(Noise::Unsettled, k, used),
+        answer: Err(Unread {
+            why: Noise::Unsettled,
+            rounds: k,
+            leaves: used,
+        }),
         place: 0,
     }
 }

@@ -14,7 +14,7 @@ ghost use Rattle.value_orders.specs.Leaves.{LeafAs};
 use clean::is_clean;
 use peaks::Peak;
 use signs::{to_bits, write_signs};
-use told::{Noise, Verdict};
+use told::{Accepted, Noise, Unread};
 
 mod clean;
 pub mod ends;
@@ -22,7 +22,7 @@ mod pairs;
 pub mod signs;
 
 // The peak of the values in the part: each half is transformed, and the pairs that the last level would join are searched.
-fn find_peak(m: usize, part: &mut [i32]) -> Peak
+fn find_peak(m: usize, part: &mut [i32]) -> Option<Peak>
     requires { (1 ≤ m) × (m ≤ 10) × (length part.old ≡ 2 ^ m) × Values (2 ^ m) part.old }
     ensures { IsPeak (2 ^ m) (correlation m (at part.old)) result }
 {
@@ -36,10 +36,9 @@ fn read_peak(m: usize, bits: bool, part: &mut [i32]) -> bool
     requires { (1 ≤ m) × (m ≤ 10) × (length part.old ≡ 2 ^ m) × Values (2 ^ m) part.old }
     ensures { LeafAs bits (2 ^ m) (order1 m (at part.old)) part.new result }
 {
-    let peak = find_peak(m, part);
-    if !peak.alone {
+    let Some(peak) = find_peak(m, part) else {
         return false;
-    }
+    };
     let mask = peak.mask;
     let constant = peak.constant;
     if bits {
@@ -71,38 +70,53 @@ fn sum_of(n: usize, area: &[i32]) -> i32
     ensures { result ≡ sum_below_ℤ n (at area.now) }
 {
     let mut s: i32 = 0;
-    for p in 0..n {
-        s += area[p];
+    for z in &area[..n] {
+        s += *z;
     }
     s
 }
 
 // The reading at order 0.
-pub fn zero_order(m: usize, area: &mut [i32]) -> Verdict
+pub fn zero_order(m: usize, area: &mut [i32]) -> Result<Accepted, Unread>
     requires { (m ≤ 10) × Values (2 ^ m) area.old }
     ensures { Read (2 ^ m) (order0 m (at (front_of (2 ^ m) area.old))) area.new result }
 {
     let n = words::size(m);
     let s = sum_of(n, area);
     if s == 0 {
-        return Verdict::Refused(Noise::Tie, 0, 0);
+        return Err(Unread {
+            why: Noise::Tie,
+            rounds: 0,
+            leaves: 0,
+        });
     }
+    let accepted = Accepted {
+        rounds: 0,
+        leaves: 0,
+    };
     if s < 0 {
         area::fill(&mut area[0..n], 1);
-        return Verdict::Accepted(0, 0);
+        return Ok(accepted);
     }
     area::fill(&mut area[0..n], 0);
-    Verdict::Accepted(0, 0)
+    Ok(accepted)
 }
 
 // The reading at order 1.
-pub fn first_order(m: usize, area: &mut [i32]) -> Verdict
+pub fn first_order(m: usize, area: &mut [i32]) -> Result<Accepted, Unread>
     requires { (1 ≤ m) × (m ≤ 10) × Values (2 ^ m) area.old }
     ensures { Read (2 ^ m) (order1 m (at (front_of (2 ^ m) area.old))) area.new result }
 {
     let n = words::size(m);
     if !read_word(m, true, &mut area[0..n]) {
-        return Verdict::Refused(Noise::Tie, 0, 1);
+        return Err(Unread {
+            why: Noise::Tie,
+            rounds: 0,
+            leaves: 1,
+        });
     }
-    Verdict::Accepted(0, 1)
+    Ok(Accepted {
+        rounds: 0,
+        leaves: 1,
+    })
 }

@@ -22,28 +22,23 @@ fn ends(h: usize, part: &[i32]) -> Keys
 {
     let mut last: i32 = 0;
     let mut first: i32 = 0;
-    let mut up: i32 = 0;
-    let mut down: i32 = 511;
-    let mut i = 0;
-    while i < h {
+    for i in 0..h {
         let x = peaks::size_of(part[i], part[h + i]) * 512;
+        let up = i as i32;
         let y = x + up;
-        let z = x + down;
+        let z = x + (511 - up);
         if last < y {
             last = y;
         }
         if first < z {
             first = z;
         }
-        up += 1;
-        down -= 1;
-        i += 1;
     }
     Keys { last, first }
 }
 
 // The peak of the sums and differences of the h pairs.
-pub fn search(h: usize, part: &[i32]) -> Peak
+pub fn search(h: usize, part: &[i32]) -> Option<Peak>
     requires { Pairs h part.now }
     ensures { IsPeak (h + h) (pairs_joined h part.now) result }
 {
@@ -51,11 +46,7 @@ pub fn search(h: usize, part: &[i32]) -> Peak
     let j = (e.last % 512) as usize;
     let i = 511 - (e.first % 512) as usize;
     if i != j {
-        return Peak {
-            mask: 0,
-            alone: false,
-            constant: 0,
-        };
+        return None;
     }
     let x = part[j];
     let y = part[h + j];

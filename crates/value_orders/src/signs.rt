@@ -13,10 +13,8 @@ pub fn to_signs(part: &mut [i32])
     requires { Bits (length part.old) part.old }
     ensures { Written (pos 0) 0 (length part.old) (λ p. neg_ℤ (at part.old p)) part.old part.new }
 {
-    let mut p = 0;
-    while p < part.len() {
-        part[p] = 0 - part[p];
-        p += 1;
+    for z in part {
+        *z = -*z;
     }
 }
 
@@ -26,7 +24,7 @@ pub fn to_bits(n: usize, area: &mut [i32])
     ensures { Written (pos 0) 0 n (λ p. pos (constant_of (at area.old p))) area.old area.new }
 {
     for p in 0..n {
-        area[p] = if area[p] < 0 { 1 } else { 0 };
+        area[p] = i32::from(area[p] < 0);
     }
 }
 
@@ -53,6 +51,7 @@ pub fn write_signs(part: &mut [i32], u: usize, s: i32)
     }
     affine::write_affine(&mut part[0..16], u, s);
     to_signs(&mut part[0..16]);
+    // The part written doubles in each turn, as no range counts.
     let mut h = 16;
     while h < n {
         let t: i32 = if u & h == 0 { 0 } else { -1 };

@@ -15,9 +15,9 @@ use Rattle.rule.specs.Decoding.{limited}
 use Rattle.rule.proofs.DecodingLaws.{limited_within}
 use Rattle.told.specs.Told.{numbers_in}
 use Rattle.steps.specs.Answers.{count_is, counted, limited_numbered, spent}
-use Rattle.steps.specs.Steps.{count_in, count_of, Voter}
+use Rattle.steps.specs.Steps.{count_in, count_of, Voter, done}
 use Rattle.steps.specs.declared.Count.{Count}
-use Rattle.steps.specs.declared.Count.TheVariants.{Done, Exhausted}
+use Rattle.std.specs.Prelude.{Option, None, Some}
 use Rattle.confidences.specs.Confidences.{project_values, reading, round_leaves}
 use Rattle.confidences.specs.Confidences as confidences
 use Rattle.confidences.proofs.Range.{project_range}
@@ -197,7 +197,7 @@ module _ {f : Round} {xs ys zs us : List ℤ} {i used absent c : ℕ} {told : En
   came_asks = answer_asks progress.polled.poll more came_answered
 
   -- it is heard, and its leaves counted
-  module _ {ts : List ℤ} {count : Count} (counts : count ≡ count_in (numbers_in told.answer)) (heard : Heard m (i + 1) told.answer (back c zs us) ts) where
+  module _ {ts : List ℤ} {count : Option Count} (counts : count ≡ count_in (numbers_in told.answer)) (heard : Heard m (i + 1) told.answer (back c zs us) ts) where
     counts_is : count ≡ count_of (left - used) (leaves_of o) (abstains o)
     counts_is = counts ∙ ap count_in came_answered.said ∙ count_is (left - used) o (reading_unlimited r m limit (v lent))
 
@@ -213,7 +213,7 @@ module _ {f : Round} {xs ys zs us : List ℤ} {i used absent c : ℕ} {told : En
     heard_long = heard.front.long ∙ before.long ∙ progress.polled.front.long
 
     -- the leaves of the directions up to this one are more than were left, and so are the round's
-    pub heard_over : count ≡ Exhausted → Renewed m left (lower f) xs ts Exhausted
+    pub heard_over : count ≡ None → Renewed m left (lower f) xs ts None
     heard_over e =
         let same_values : values_of f ≡ front_of (2 ^ suc m) xs = same_front (written_front from.cleared (omega arith)) from.given.values.room in
         round_spent
@@ -227,25 +227,25 @@ module _ {f : Round} {xs ys zs us : List ℤ} {i used absent c : ℕ} {told : En
         )))
         (heard_long ∙ from.cleared.long)
 
-    module _ (l b : ℕ) (e : count ≡ Done l b) where
-      enough : (l ≡ leaves_of o) × (leaves_of o ≤ left - used) × (b ≡ abstains o)
-      enough = counted (left - used) (leaves_of o) (abstains o) counts_is l b e
+    module _ (d : Count) (e : count ≡ Some d) where
+      enough : (d.leaves ≡ leaves_of o) × (leaves_of o ≤ left - used) × (d.abstained ≡ abstains o)
+      enough = counted (left - used) (leaves_of o) (abstains o) counts_is d e
 
       within : limited (left - used) o ≡ o
       within = limited_within (left - used) o enough.1
 
-      pub heard_few : used + l ≤ left
+      pub heard_few : used + d.leaves ≤ left
       heard_few = omega (arith, enough, progress.few)
 
-      polled_next : Polled m (lower f) 0 (i + 1) area ts (absent + b)
+      polled_next : Polled m (lower f) 0 (i + 1) area ts (absent + d.abstained)
       polled_next =
           polled_then (rounded from) progress.polled
           (subst (Polled m (lower f) i (i + 1) ys ts) (ap abstains within ∙ sym enough.2) (answer_more progress.polled.poll more came_answered within heard))
 
-      pub heard_absent : absent + b ≤ 1023
+      pub heard_absent : absent + d.abstained ≤ 1023
       heard_absent = polled_few polled_next
 
-      pub heard_more : Progress f ts (i + 1) (used + l) (absent + b)
+      pub heard_more : Progress f ts (i + 1) (used + d.leaves) (absent + d.abstained)
       heard_more = record {
         polled = polled_next;
         counted = omega (arith, enough, leaves_here, ap (leaves_to m (lower f) (values_of f)) (add-one i));
@@ -262,7 +262,7 @@ module _ {f : Round} {xs ys : List ℤ} {i used absent : ℕ} (from : From f xs)
   pub last_asks : (m ≤ 9) × (8 * 2 ^ m ≤ length ys) × Sums (2 ^ suc m) ys
   last_asks = let p = progress.polled.poll in (p.round.few, p.round.room, poll_sums p)
 
-  pub last_renewed : {us : List ℤ} → Written (pos 0) 0 (2 ^ suc m) (new_at m absent ys) ys us → Renewed m left (lower f) xs us (Done used absent)
+  pub last_renewed : {us : List ℤ} → Written (pos 0) 0 (2 ^ suc m) (new_at m absent ys) ys us → Renewed m left (lower f) xs us (done used absent)
   last_renewed new =
       let same_values : values_of f ≡ front_of (2 ^ suc m) xs = same_front (written_front from.cleared (omega arith)) from.given.values.room in
       poll_last from.given (rw last at (polled_from from.given from.cleared progress.polled))

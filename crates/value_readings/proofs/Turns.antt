@@ -15,14 +15,12 @@ use Rattle.rule.proofs.Counts.{leaf_leaves}
 use Rattle.rule.specs.Decoding.{limited}
 use Rattle.rule.proofs.DecodingLaws.{limited_above, limited_within}
 use Rattle.rule.specs.Reading.{Outcome, accepted, leaves_of, order0, order1, refused}
-use Rattle.told.specs.Told.{Read}
+use Rattle.told.specs.Told.{Read, Verdict, as_refused}
 use Rattle.told.specs.ToldLaws.{read_above}
 use Rattle.told.specs.declared.Noise.TheVariants.{TooManyLeaves}
-use Rattle.told.specs.declared.Verdict.{Verdict}
-use Rattle.told.specs.declared.Verdict.TheVariants.{Refused}
 use Rattle.steps.specs.Answers.{counted, spent}
 use Rattle.steps.specs.declared.Count.{Count}
-use Rattle.steps.specs.declared.Count.TheVariants.{Done, Exhausted}
+use Rattle.std.specs.Prelude.{Option, None, Some}
 use Rattle.confidences.specs.Confidences.{abstained, ended, leaves_after, lowest_zero, reading, round_leaves, updated, values_after, zero_place}
 use Rattle.confidences.proofs.Counts.{reading_leaf}
 use Rattle.confidences.proofs.Range.{after_range}
@@ -72,13 +70,13 @@ module _ (r m limit left : ℕ) (x ys : List ℤ) where
       (subst (λ (o : Outcome). Read (2 ^ m) o ys a) (sym (ap (λ (i : ℕ). reading i m limit x) q ∙ reading_one m limit x)) read)
 
   -- 12 names no place either
-  pub read_over : {e : Ended} → left < leaves_of (reading r m limit x) → Unnamed (Refused TooManyLeaves 0 left) e → ReadsValues m r limit left x ys e
+  pub read_over : {e : Ended} → left < leaves_of (reading r m limit x) → Unnamed (as_refused TooManyLeaves 0 left) e → ReadsValues m r limit left x ys e
   read_over over u = record {
     read = subst (Read (2 ^ m) (limited left (reading r m limit x)) ys) (sym u.0) (read_above ys (reading r m limit x) over);
     place = u.1 ∙ sym (ap (λ (o : Outcome). place_in o (zero_place r m limit x)) (limited_above left (reading r m limit x) over));
   }
 
-  pub read_none : {e : Ended} → r ≡ 1 → left ≡ 0 → Unnamed (Refused TooManyLeaves 0 left) e → ReadsValues m r limit left x ys e
+  pub read_none : {e : Ended} → r ≡ 1 → left ≡ 0 → Unnamed (as_refused TooManyLeaves 0 left) e → ReadsValues m r limit left x ys e
   read_none q none u = read_over (omega (arith, leaves_are (omega arith))) u
 
 -- ---- order 2 and above
@@ -152,14 +150,14 @@ module _ (m r limit left : ℕ) (xs : List ℤ) where
     )
 
     -- the round was made
-    module _ {zs : List ℤ} {c : Count} (more : k < limit) (renewed : Renewed (m - 1) (left - used) lower ys zs c) where
+    module _ {zs : List ℤ} {c : Option Count} (more : k < limit) (renewed : Renewed (m - 1) (left - used) lower ys zs c) where
       abbrev leaves : ℕ
       leaves = round_leaves (m - 1) lower (after k)
 
       front_here : front_of (2 ^ suc (m - 1)) ys ≡ after k
       front_here = ap (λ (j : ℕ). front_of j ys) power ∙ front_ys
 
-      pub turn_exhausted : {us : List ℤ} {e : Ended} → c ≡ Exhausted → Unnamed (Refused TooManyLeaves 0 left) e → ReadsValues m r limit left x us e
+      pub turn_exhausted : {us : List ℤ} {e : Ended} → c ≡ None → Unnamed (as_refused TooManyLeaves 0 left) e → ReadsValues m r limit left x us e
       turn_exhausted {us} q u =
           read_over r m limit left x us
           (omega (
@@ -172,14 +170,14 @@ module _ (m r limit left : ℕ) (xs : List ℤ) where
             ap leaves_of (reading_above r m limit x turn.above) ∙ ended_leaves m r (after limit) limit (leaves_in limit),
           )) u
 
-      module _ (count b : ℕ) (done : c ≡ Done count b) where
-        enough : (count ≡ leaves) × (leaves ≤ left - used) × (b ≡ abstained (m - 1) lower (after k))
-        enough = counted (left - used) leaves (abstained (m - 1) lower (after k)) (rw front_here at renewed.said) count b done
+      module _ (d : Count) (is : c ≡ Some d) where
+        enough : (d.leaves ≡ leaves) × (leaves ≤ left - used) × (d.abstained ≡ abstained (m - 1) lower (after k))
+        enough = counted (left - used) leaves (abstained (m - 1) lower (after k)) (rw front_here at renewed.said) d is
 
-        pub turn_few : used + count ≤ left
+        pub turn_few : used + d.leaves ≤ left
         turn_few = omega (arith, enough, turn.few)
 
-        pub turn_more : Turn zs (k + 1) (used + count)
+        pub turn_more : Turn zs (k + 1) (used + d.leaves)
         turn_more = rw (add-one k) (record {
           above = turn.above;
           ready = turn.ready;
@@ -194,25 +192,21 @@ module _ (m r limit left : ℕ) (xs : List ℤ) where
         })
 
     -- the rounds are used up
-    pub turn_last : limit ≤ k → {zs : List ℤ} {e : Ended} → Read (2 ^ m) (ended m r (front_of (2 ^ m) ys) k used) zs e.answer
-        → e.place ≡ place_in (ended m r (front_of (2 ^ m) ys) k used) (lowest_zero m (front_of (2 ^ m) ys)) → ReadsValues m r limit left x zs e
-    turn_last h {zs} {e} read place =
-        let last : k ≡ limit = omega (arith, turn.many) in
-        let whole : ended m r (front_of (2 ^ m) ys) k used ≡ reading r m limit x =
-        ap₂ (λ (y : List ℤ) (l : ℕ). ended m r y k l) front_ys turn.counted
-        ∙ ap (λ (j : ℕ). ended m r (after j) j (leaves_in j)) last
-        ∙ sym (reading_above r m limit x turn.above) in
+    pub turn_last : k ≡ limit → {zs : List ℤ} {e : Ended} → Read (2 ^ m) (ended m r (front_of (2 ^ m) ys) limit used) zs e.answer
+        → e.place ≡ place_in (ended m r (front_of (2 ^ m) ys) limit used) (lowest_zero m (front_of (2 ^ m) ys)) → ReadsValues m r limit left x zs e
+    turn_last last {zs} {e} read place =
+        let values_are : front_of (2 ^ m) ys ≡ after limit = front_ys ∙ ap after last in
+        let whole : ended m r (front_of (2 ^ m) ys) limit used ≡ reading r m limit x =
+        ap₂ (λ (y : List ℤ) (l : ℕ). ended m r y limit l) values_are (turn.counted ∙ ap leaves_in last) ∙ sym (reading_above r m limit x turn.above) in
         let within : limited left (reading r m limit x) ≡ reading r m limit x =
-        limited_within left (reading r m limit x) (omega (arith, turn.few, ap leaves_of (sym whole) ∙ ended_leaves m r (front_of (2 ^ m) ys) k used)) in
+        limited_within left (reading r m limit x) (omega (arith, turn.few, ap leaves_of (sym whole) ∙ ended_leaves m r (front_of (2 ^ m) ys) limit used)) in
         record {
           read = rw within (rw whole at read);
-          place =
-              place
-              ∙ ap₂ place_in (whole ∙ sym within) (ap (lowest_zero m) (front_ys ∙ ap after last) ∙ sym (place_above r m limit x));
+          place = place ∙ ap₂ place_in (whole ∙ sym within) (ap (lowest_zero m) values_are ∙ sym (place_above r m limit x));
         }
 
 -- a round whose directions are read at order 1
-pub leaf_lower : {m left : ℕ} {xs ys : List ℤ} {c : Count} (r limit : ℕ) → r ≡ 1 → Renewed m left (λ x. order1 m (at x)) xs ys c
+pub leaf_lower : {m left : ℕ} {xs ys : List ℤ} {c : Option Count} (r limit : ℕ) → r ≡ 1 → Renewed m left (λ x. order1 m (at x)) xs ys c
     → Renewed m left (reading r m limit) xs ys c
 unfolding reading
 leaf_lower {m} {left} {xs} {ys} {c} r limit e h = rw e h

@@ -1,7 +1,7 @@
 -- A direction of a round after its reading's answer, the decoded word in bits. Assumes nothing.
 use Prim.Native.Nat.{ℕ, suc, ◌+◌, ◌-◌, ◌*◌, ◌^◌, ◌≤◌, ◌<◌}
 use Rattle.std.proofs.Common.{zero-add, add-one, arith, subst, ◌∙◌, get_or-take}
-use Rattle.std.specs.Prelude.{◌≡◌, refl, List, length, ℤ, pos, nat_abs, neg_ℤ}
+use Rattle.std.specs.Prelude.{Ok, Err, ◌≡◌, refl, List, length, ℤ, pos, nat_abs, neg_ℤ}
 use Rattle.std.proofs.Math.Path.{sym, ap, ap₂}
 use Rattle.std.specs.Int.Bits.{bit_xor}
 use Rattle.std.proofs.lemmas.Nat.{xor_lt}
@@ -17,10 +17,9 @@ use Rattle.direction.specs.Direction.{coset_of}
 use Rattle.direction.proofs.Members.{number_lt}
 use Rattle.hadamard.specs.Correlation.{constant_of, signed}
 use Rattle.rule.specs.Reading.{Outcome, abstains}
-use Rattle.told.specs.Told.{Holds, numbers_in, numbers_of}
-use Rattle.told.specs.declared.Noise.{Noise}
-use Rattle.told.specs.declared.Verdict.{Verdict}
-use Rattle.told.specs.declared.Verdict.TheVariants.{Accepted, Refused}
+use Rattle.told.specs.Told.{Holds, Verdict, numbers_in, numbers_of}
+use Rattle.told.specs.declared.Accepted.{Accepted}
+use Rattle.told.specs.declared.Unread.{Unread}
 use Rattle.steps.specs.Answers.{Numbered, by_answer}
 use Rattle.steps.specs.Steps.{Voter}
 use Rattle.confidences.specs.Confidences.{read, share}
@@ -82,8 +81,8 @@ module _ {m b c k : ℕ} {xs : List ℤ} (projects : Projects m b c xs) (sums : 
     )
 
     pub bits_heard : {us : List ℤ} → Written (pos 0) (2 ^ suc m) (2 ^ suc m) (λ p. at zs (2 ^ suc m + p) +ℤ heard_at b c zs p) zs us
-        → (k l : ℕ) → Heard m b (Accepted k l) xs us
-    bits_heard new k l = record {
+        → (w : Accepted) → Heard m b (Ok w) xs us
+    bits_heard new w = record {
       front = record { long = new.long ∙ front.long; same = λ p h. new.below p h ∙ front.same p (omega arith) };
       sums = λ p h.
           let q : ℕ = coset_of b p in
@@ -96,8 +95,8 @@ module _ {m b c k : ℕ} {xs : List ℤ} (projects : Projects m b c xs) (sums : 
     }
 
 -- a direction that abstains
-pub none_heard : (m b : ℕ) (xs : List ℤ) (why : Noise) (k l : ℕ) → Heard m b (Refused why k l) xs xs
-none_heard m b xs why k l = record {
+pub none_heard : (m b : ℕ) (xs : List ℤ) (u : Unread) → Heard m b (Err u) xs xs
+none_heard m b xs u = record {
   front = record { long = refl; same = λ p h. refl };
   sums = λ p h. sym (+ℤ_idr (at xs (2 ^ suc m + p)));
 }
@@ -122,8 +121,8 @@ module _ {m i : ℕ} {lower : List ℤ → Outcome} {xs zs us : List ℤ} {answe
   voter : Voter m answer zs
   voter =
       by_answer (λ (v : Verdict) (y : Outcome). Holds (2 ^ m) y us → Voter m v zs)
-      (λ d k l h. record { decoded = λ q u. subst IsBit (sym (decoded q u ∙ h.each q u)) (is_bit _ (h.bits q u)) })
-      (λ why k l h. tt) answer o numbered said holds
+      (λ d w h. record { decoded = λ q u. subst IsBit (sym (decoded q u ∙ h.each q u)) (is_bit _ (h.bits q u)) })
+      (λ u h. tt) answer o numbered said holds
 
   pub answer_asks : Projects m (i + 1) (4 * 2 ^ m) zs × (Sums (2 ^ suc m) zs × Voter m answer zs)
   answer_asks = let h = hear_asks poll more (add-one i) same (omega arith) room_here in (h.0, (h.1, voter))
@@ -134,12 +133,12 @@ module _ {m i : ℕ} {lower : List ℤ → Outcome} {xs zs us : List ℤ} {answe
       let q : ℕ = coset_of b p in
       ap (λ (d : ℕ). said_of m d zs answer p) (add-one i)
       ∙ by_answer (λ (v : Verdict) (y : Outcome). Holds (2 ^ m) y us → said_of m b zs v p ≡ share b (front_of (2 ^ suc m) xs) y p)
-      (λ d k l h.
+      (λ d w h.
       let f : q < 2 ^ m = number_lt (hear_asks poll more refl same (omega arith) room_here).0.direction p u in
       ap₂ (λ (y z : ℤ). signed (nat_abs y) z) (decoded q f ∙ h.each q f)
       (same.same (bit_xor p b) (omega (arith, xor_lt (suc m) p b u (omega arith)))
       ∙ sym (get_or-take (2 ^ suc m) xs (bit_xor p b) (pos 0) (xor_lt (suc m) p b u (omega arith)))))
-      (λ why k l h. refl) answer o numbered said holds
+      (λ u h. refl) answer o numbered said holds
 
   -- where the leaves sufficed
   pub answer_more : {ts : List ℤ} → o ≡ read m lower (front_of (2 ^ suc m) xs) i → Heard m (i + 1) answer zs ts → Polled m lower i (i + 1) xs ts (abstains o)

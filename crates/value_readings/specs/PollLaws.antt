@@ -1,5 +1,5 @@
 -- A round of confidences step by step in the area. Assumes nothing.
-use Rattle.std.specs.Prelude.{ℕ, suc, ◌+◌, ◌-◌, ◌*◌, ◌^◌, ◌≤◌, ◌<◌, ◌≡◌, refl, cond, List, eqb, length, ℤ, pos, nat_abs, ◌+ℤ◌}
+use Rattle.std.specs.Prelude.{None, ℕ, suc, ◌+◌, ◌-◌, ◌*◌, ◌^◌, ◌≤◌, ◌<◌, ◌≡◌, refl, cond, List, eqb, length, ℤ, pos, nat_abs, ◌+ℤ◌}
 use Rattle.std.proofs.Common.{add-zero, add_assoc, zero-add, arith, sym, ap, ap₂, subst, ◌∙◌, pow_mono, get_or-take, le-ltb, lt-ltb}
 use Rattle.std.proofs.Math.IntN.{+ℤ_idr, +ℤ_assoc}
 use Rattle.words.specs.Sum.{sum_below, sum_below_ℤ}
@@ -7,7 +7,7 @@ use Rattle.words.specs.SumLaws.{sum_most, total_append}
 use Rattle.words.specs.Written.{Written}
 use Rattle.area.specs.Area.{at, SameFront}
 use Rattle.rule.specs.Reading.{Outcome, abstains, accepted, refused}
-use Rattle.steps.specs.declared.Count.TheVariants.{Done, Exhausted}
+use Rattle.steps.specs.Steps.{done}
 use Rattle.confidences.specs.Confidences.{abstained, cut, read, round_leaves, share, sums}
 use Rattle.confidences.specs.InRange.{InRange}
 use Rattle.confidences.proofs.Range.{sums_small}
@@ -150,7 +150,7 @@ module _ {m a : ℕ} {lower : List ℤ → Outcome} {xs zs : List ℤ} (r : Roun
 
   -- all directions were heard, with enough leaves, and the new values made
   pub poll_last : {left used : ℕ} {us : List ℤ} → used ≡ round_leaves m lower w → used ≤ left → Written (pos 0) 0 (2 ^ suc m) (new_at m a zs) zs us
-      → Renewed m left lower xs us (Done used a)
+      → Renewed m left lower xs us (done used a)
   poll_last {left} {used} {us} e enough new = record {
     said = rw (← e, le-ltb left used enough, all_silent);
     long = new.long ∙ polled.front.long;
@@ -163,7 +163,7 @@ module _ {m a : ℕ} {lower : List ℤ → Outcome} {xs zs : List ℤ} (r : Roun
 
 -- there were not leaves enough
 pub round_spent : {m left : ℕ} {lower : List ℤ → Outcome} {xs ys : List ℤ} → left < round_leaves m lower (front_of (2 ^ suc m) xs) → length ys ≡ length xs
-    → Renewed m left lower xs ys Exhausted
+    → Renewed m left lower xs ys None
 round_spent {m} {left} {lower} {xs} h e = record {
   said = rw (lt-ltb left (round_leaves m lower (front_of (2 ^ suc m) xs)) h);
   long = e;

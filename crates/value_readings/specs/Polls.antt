@@ -1,5 +1,5 @@
 -- What a round of confidences and its directions ask and promise. Assumes nothing.
-use Rattle.std.specs.Prelude.{ℕ, suc, ◌+◌, ◌-◌, ◌*◌, ◌%◌, ◌^◌, ◌≤◌, ◌<◌, ◌≡◌, Bool, cond, List, length, take, drop, eqb, ltb, ℤ, pos, nat_abs, ◌+ℤ◌}
+use Rattle.std.specs.Prelude.{Option, Ok, Err, ℕ, suc, ◌+◌, ◌-◌, ◌*◌, ◌%◌, ◌^◌, ◌≤◌, ◌<◌, ◌≡◌, Bool, cond, List, length, take, drop, eqb, ltb, ℤ, pos, nat_abs, ◌+ℤ◌}
 use Rattle.std.specs.Int.Bits.{bit_xor}
 use Rattle.words.specs.Sum.{sum_below}
 use Rattle.words.specs.Written.{Written}
@@ -7,8 +7,7 @@ use Rattle.area.specs.Area.{at, SameFront}
 use Rattle.direction.specs.Direction.{coset_of}
 use Rattle.hadamard.specs.Correlation.{signed}
 use Rattle.rule.specs.Reading.{Outcome, order1}
-use Rattle.told.specs.declared.Verdict.{Verdict}
-use Rattle.told.specs.declared.Verdict.TheVariants.{Accepted, Refused}
+use Rattle.told.specs.Told.{Verdict}
 use Rattle.steps.specs.Steps.{count_of}
 use Rattle.steps.specs.declared.Count.{Count}
 use Rattle.confidences.specs.Confidences.{abstained, cut, greatest, round_leaves, updated}
@@ -24,7 +23,7 @@ pub record Rounded (m : ℕ) (xs : List ℤ) : Type 0 where
   pub values : Values (2 ^ suc m) xs
 
 -- what a round of values of exponent m + 1 leaves: the new values
-pub record Renewed (m left : ℕ) (lower : List ℤ → Outcome) (xs ys : List ℤ) (count : Count) : Type 0 where
+pub record Renewed (m left : ℕ) (lower : List ℤ → Outcome) (xs ys : List ℤ) (count : Option Count) : Type 0 where
   pub said : count ≡ count_of left (round_leaves m lower (front_of (2 ^ suc m) xs)) (abstained m lower (front_of (2 ^ suc m) xs))
   pub long : length ys ≡ length xs
   pub values : round_leaves m lower (front_of (2 ^ suc m) xs) ≤ left → (p : ℕ) → p < 2 ^ suc m
@@ -63,8 +62,8 @@ pub record Next (m i : ℕ) : Type 0 where
 
 -- what direction b says of place p after its reading's answer, by the bits from 4 × 2^m on
 abbrev pub said_of : ℕ → ℕ → List ℤ → Verdict → ℕ → ℤ
-said_of m b xs (Accepted k l) p = signed (nat_abs (at xs (4 * 2 ^ m + coset_of b p))) (at xs (bit_xor p b))
-said_of m b xs (Refused why k l) p = pos 0
+said_of m b xs (Ok a) p = signed (nat_abs (at xs (4 * 2 ^ m + coset_of b p))) (at xs (bit_xor p b))
+said_of m b xs (Err u) p = pos 0
 
 -- it was heard
 pub record Heard (m b : ℕ) (answer : Verdict) (xs ys : List ℤ) : Type 0 where

@@ -4,6 +4,7 @@
 #![tactic(auto)]
 
 ghost use Rattle.std.specs.Prelude.{◌≡◌, suc, ◌^◌, ◌≤◌};
+ghost use Rattle.told.specs.Told.{as_refused};
 ghost use Rattle.confidences.specs.Confidences;
 ghost use Rattle.confidences.specs.Values.{front_of};
 ghost use Rattle.value_readings.specs.Polls.{Renewed};
@@ -13,7 +14,7 @@ use rounds::answers::hear_answer;
 use rounds::ends::{clear, conclude};
 use rounds::leaf_round;
 use steps::Count;
-use told::{Noise, Verdict};
+use told::{Accepted, Noise, Unread};
 use value_orders::ends::{Ended, finish};
 use value_orders::{first_order, zero_order};
 use value_steps::project;
@@ -21,10 +22,21 @@ use value_steps::project;
 mod rounds;
 
 // An answer that names no place.
-fn unnamed(answer: Verdict) -> Ended
+fn unnamed(answer: Result<Accepted, Unread>) -> Ended
     ensures { (result.answer ≡ answer) × (result.place ≡ 0) }
 {
     Ended { answer, place: 0 }
+}
+
+// The answer where the leaves left do not suffice.
+fn exhausted(left: usize) -> Ended
+    ensures { (result.answer ≡ as_refused Noise.TooManyLeaves 0 left) × (result.place ≡ 0) }
+{
+    unnamed(Err(Unread {
+        why: Noise::TooManyLeaves,
+        rounds: 0,
+        leaves: left,
+    }))
 }
 
 // The reading of the values in the front of the area from order 2 on, with at most `left` leaves.
@@ -34,26 +46,20 @@ fn reading(m: usize, r: usize, rounds: usize, left: usize, area: &mut [i32]) -> 
     requires le_r { 2 ≤ r }
     ensures { ReadsValues m r rounds left (front_of (2 ^ m) area.old) area.new result }
 {
-    let mut k = 0;
     let mut used = 0;
-    while k < rounds {
-        match round(m - 1, r - 1, rounds, left - used, area) {
-            Count::Exhausted => {
-                return unnamed(Verdict::Refused(Noise::TooManyLeaves, 0, left));
-            }
-            Count::Done(leaves, _) => {
-                used += leaves;
-                k += 1;
-            }
-        }
+    for _ in 0..rounds {
+        let Some(count) = round(m - 1, r - 1, rounds, left - used, area) else {
+            return exhausted(left);
+        };
+        used += count.leaves;
     }
-    finish(m, r, k, used, area)
+    finish(m, r, rounds, used, area)
 }
 
 // A round of the values of exponent m + 1 in the front of the area: each becomes the sum over the directions' readings at exponent m and
 // order r, cut to the range.
 #[cycle(reading_round)]
-fn round(m: usize, r: usize, rounds: usize, left: usize, area: &mut [i32]) -> Count
+fn round(m: usize, r: usize, rounds: usize, left: usize, area: &mut [i32]) -> Option<Count>
     requires ready { Ready (suc m) (suc r) left area.old }
     requires le_r { 1 ≤ r }
     ensures { Renewed m left (Rattle.confidences.specs.Confidences.reading r m rounds) area.old area.new result }
@@ -70,18 +76,15 @@ fn round(m: usize, r: usize, rounds: usize, left: usize, area: &mut [i32]) -> Co
         project(m, i + 1, rest, area);
         let told = reading(m, r, rounds, left - used, &mut area[rest..]);
         let answer = told.answer;
-        match hear_answer(m, i + 1, answer, area) {
-            Count::Exhausted => {
-                return Count::Exhausted;
-            }
-            Count::Done(leaves, abstains) => {
-                used += leaves;
-                abstained += abstains;
-            }
-        }
+        let count = hear_answer(m, i + 1, answer, area)?;
+        used += count.leaves;
+        abstained += count.abstained;
     }
     conclude(m, abstained, area);
-    Count::Done(used, abstained)
+    Some(Count {
+        leaves: used,
+        abstained,
+    })
 }
 
 // The reading of the values in the front of the area, with at most `left` leaves. Orders 0 and 1 are not read in the cycle, so that a call for
@@ -95,7 +98,7 @@ pub fn read(m: usize, r: usize, rounds: usize, left: usize, area: &mut [i32]) ->
     }
     if r == 1 {
         if left == 0 {
-            return unnamed(Verdict::Refused(Noise::TooManyLeaves, 0, left));
+            return exhausted(left);
         }
         return unnamed(first_order(m, area));
     }

@@ -34,7 +34,7 @@ fn hear_few(m: usize, heard: usize, area: &mut [i32]) -> usize
 
 // A round whose directions are read at order 1. Each is a leaf: they are counted as they are read, and where fewer are left than are heard next
 // the round ends.
-pub fn leaf_round(m: usize, left: usize, area: &mut [i32]) -> Count
+pub fn leaf_round(m: usize, left: usize, area: &mut [i32]) -> Option<Count>
     requires { Rounded m area.old }
     ensures { Renewed m left (leaf m) area.old area.new result }
 {
@@ -42,14 +42,18 @@ pub fn leaf_round(m: usize, left: usize, area: &mut [i32]) -> Count
     clear(m, area);
     let mut used = 0;
     let mut abstained = 0;
+    // Counted by hand: each of the first three directions is heard alone, and then four together.
     while used < directions {
         let few = next_few(used);
         if left - used < few {
-            return Count::Exhausted;
+            return None;
         }
         abstained += hear_few(m, used, area);
         used += few;
     }
     conclude(m, abstained, area);
-    Count::Done(used, abstained)
+    Some(Count {
+        leaves: used,
+        abstained,
+    })
 }

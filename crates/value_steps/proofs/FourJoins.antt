@@ -108,8 +108,8 @@ joining_none m k xs = record {
 
 module _ {m k q : ℕ} {xs ys : List ℤ} where
   -- after a turn
-  pub joining_next : Joining m k xs q 4 ys → Joining m k xs (q + 4) 0 ys
-  joining_next t = record {
+  pub joining_next : Joining m k xs q 4 ys → {e : ℕ} → e ≡ q + 4 → Joining m k xs e 0 ys
+  joining_next t next = record {
     long = t.long;
     done = λ i j hi hj. elim (dec_lt j q) [
       | yes h ↦ t.done i j hi h
@@ -144,10 +144,6 @@ four_join asks size top below whole inserted = record { asks = asks; size = size
 module _ {m k n h q p : ℕ} {xs : List ℤ} (t : FourJoin m k xs n h q p) where
   pub number : q + 4 ≤ 2 ^ m
   number = block_room (t.turn 0 (omega arith))
-
-  -- the numbers that the code makes
-  pub run_fits : length xs * 4 < 2 ^ 63 → {x : ℕ} → x ≤ 7 * n + q → Fits w64 x
-  run_fits small l = index_fits small (omega (arith, t.asks.room, t.size, number))
 
   -- ---- its block of run l
 

@@ -1,21 +1,17 @@
--- A turn of `share_some` and `share_four`: of the cosets q to q + 3 of four directions, the members hear each other. Assumes nothing.
-use Prim.Native.Nat.{ℕ, suc, ◌+◌, ◌*◌, ◌%◌, ◌^◌, ◌≤◌, ◌<◌}
+-- A turn of `share_four`: of the cosets q to q + 3 of four directions, the members hear each other. Assumes nothing.
+use Prim.Native.Nat.{ℕ, suc, ◌+◌, ◌*◌, ◌/◌, ◌%◌, ◌^◌, ◌≤◌, ◌<◌}
 use mathlib.Core.Path.{◌≡◌, sym, ap, ap₂, ◌∙◌, subst}
 use mathlib.Core.Bool.{Bool}
 use mathlib.Core.List.{List}
 use native.Mathlib.Omega.{arith}
 use lib.Bits.{bit_xor}
-use lib.ListN.{length}
 use lib.IntN.{ℤ, pos, nat_abs, ◌+ℤ◌}
-use mir.Syntax.{w64}
-use mir.Val.{Fits}
 use Rattle.words.specs.SumLaws.{sum_ℤ_ext}
 use Rattle.words.specs.Written.{Written}
 use Rattle.area.specs.Area.{at}
-use Rattle.area.specs.Places.{index_fits}
 use Rattle.direction.specs.Direction.{highest, insert_zero, coset_of}
 use Rattle.cosets.specs.SetBelow.{Blocks, SetBelow, among, apart_after, still, two_runs, set_none, set_all, set_more}
-use Rattle.projections.specs.FourLaws.{four_lt}
+use Rattle.projections.specs.FourLaws.{four_lt, pow_whole}
 use Rattle.projections.proofs.FourTurns.{FourTurn, block_room, four_members, four_partner, partner_place, coset_one, coset_two, back_two, four_blocks}
 use Rattle.confidences.specs.Confidences.{greatest}
 use Rattle.confidences.specs.Values.{ProjectsFour, Sums}
@@ -31,9 +27,11 @@ pub record Sharing (m k : ℕ) (w : ℕ → Bool) (xs : List ℤ) (q : ℕ) (ys 
 pub share_none : (m k : ℕ) (w : ℕ → Bool) (xs : List ℤ) → Sharing m k w xs 0 xs
 share_none m k w xs = record { many = omega arith; whole = omega arith; so_far = set_none m (4 * k) _ xs }
 
-pub share_all : {m k q : ℕ} {w : ℕ → Bool} {xs ys : List ℤ} → ProjectsFour m k xs → Sharing m k w xs q ys → 2 ^ m ≤ q
-    → Written (pos 0) (2 ^ suc m) (2 ^ suc m) (λ p. at xs (2 ^ suc m + p) +ℤ words_at m k w xs p) xs ys
-share_all asks s l = set_all asks.direction s.so_far l
+pub share_all : {m k n q : ℕ} {w : ℕ → Bool} {xs ys : List ℤ} → ProjectsFour m k xs → Sharing m k w xs q ys → n ≡ 2 ^ m → q ≡ 4 * (n / 4)
+    → {u : ℕ → Bool} → w ≡ u → Written (pos 0) (2 ^ suc m) (2 ^ suc m) (λ p. at xs (2 ^ suc m + p) +ℤ words_at m k u xs p) xs ys
+share_all {m} {k} {xs = xs} {ys} asks s size all e =
+    subst (λ (u : ℕ → Bool). Written (pos 0) (2 ^ suc m) (2 ^ suc m) (λ p. at xs (2 ^ suc m + p) +ℤ words_at m k u xs p) xs ys) e
+    (set_all asks.direction s.so_far (omega (arith, size, all, pow_whole m asks.blocks)))
 
 -- p is the representative of coset q, and ys the area before the turn
 pub record FourShare (m k : ℕ) (w : ℕ → Bool) (xs : List ℤ) (n h q p : ℕ) (ys : List ℤ) : Type 0 where
@@ -50,15 +48,6 @@ pub four_share : {m k n h q p : ℕ} {w : ℕ → Bool} {xs ys : List ℤ} → P
     → p ≡ insert_zero h q → Sharing m k w xs q ys → FourShare m k w xs n h q p ys
 four_share asks sums size top below inserted before =
     record { asks = asks; sums = sums; size = size; top = top; below = below; inserted = inserted; before = before }
-
--- the numbers that the code makes of a turn's places
-pub record Rooms (n q p z : ℕ) : Type 0 where
-  pub four : Fits w64 (4 * n)
-  pub twice : Fits w64 (2 * n)
-  pub sign : Fits w64 (4 * n + q)
-  pub one : Fits w64 (2 * n + p)
-  pub two : Fits w64 (2 * n + z)
-  pub next : Fits w64 (q + 4)
 
 module _ {m k n h q p : ℕ} {w : ℕ → Bool} {xs ys : List ℤ} (t : FourShare m k w xs n h q p ys) where
   abbrev z : ℕ
@@ -77,18 +66,6 @@ module _ {m k n h q p : ℕ} {w : ℕ → Bool} {xs ys : List ℤ} (t : FourShar
 
   pub number : q + 4 ≤ 2 ^ m
   number = block_room plain
-
-  pub rooms : length xs * 4 < 2 ^ 63 → Rooms n q p z
-  rooms small =
-      let fit : (x : ℕ) → x ≤ 8 * 2 ^ m → Fits w64 x = λ x l. index_fits small (omega (arith, t.asks.room)) in
-      record {
-        four = fit _ (omega (arith, t.size));
-        twice = fit _ (omega (arith, t.size));
-        sign = fit _ (omega (arith, t.size, number));
-        one = fit _ (omega (arith, t.size, blocks.place));
-        two = fit _ (omega (arith, t.size, blocks.partner));
-        next = fit _ (omega (arith, number));
-      }
 
   abbrev f : ℕ → ℤ
   f r = at xs (2 ^ suc m + r) +ℤ words_at m k w xs r
@@ -164,11 +141,11 @@ module _ {m k n h q p : ℕ} {w : ℕ → Bool} {xs ys : List ℤ} (t : FourShar
     }
 
     pub share_more : {vs : List ℤ} → Written (pos 0) (2 * n + z) 4 (λ i. at us (2 * n + z + i) +ℤ four_said w (bit_xor i) n (4 * n + q) p us i) us vs
-        → Sharing m k w xs (q + 4) vs
-    share_more second = record {
-      many = number;
-      whole = omega (arith, t.before.whole);
-      so_far = set_more blocks so_far (two_runs (apart_after (2 * n) blocks.apart) first second) (omega (arith, t.size)) (omega (arith, t.size))
+        → {e : ℕ} → e ≡ q + 4 → Sharing m k w xs e vs
+    share_more second e = record {
+      many = omega (arith, number, e);
+      whole = omega (arith, t.before.whole, e);
+      so_far = rw e (set_more blocks so_far (two_runs (apart_after (2 * n) blocks.apart) first second) (omega (arith, t.size)) (omega (arith, t.size))
           (λ i hi. ap₂ ◌+ℤ◌ (sum_ahead p i blocks.place hi (ahead_one i hi)) (heard_one ys so_far.below so_far.above i hi))
-          (λ i hi. ap₂ ◌+ℤ◌ (sum_kept i hi ∙ sum_ahead z i blocks.partner hi (ahead_two i hi)) (heard_two us front_kept signs_kept i hi));
+          (λ i hi. ap₂ ◌+ℤ◌ (sum_kept i hi ∙ sum_ahead z i blocks.partner hi (ahead_two i hi)) (heard_two us front_kept signs_kept i hi)));
     }

@@ -8,19 +8,18 @@ use native.Mathlib.Omega.{arith}
 use lib.Bits.{bit_xor, xor_zero_r}
 use lib.ListN.{length}
 use lib.IntN.{ℤ, pos, nat_abs, ◌+ℤ◌, +ℤ_idl}
-use mir.Syntax.{w32, w64}
-use mir.Val.{Fits, SFits}
+use mir.Syntax.{w32}
+use mir.Val.{SFits}
 use Rattle.words.specs.Sum.{total, sum_below_ℤ}
-use Rattle.words.specs.SumLaws.{sum_ℤ_ext}
 use Rattle.words.specs.Written.{Written, written_as}
 use Rattle.area.specs.Area.{at, four_of}
 use Rattle.area.proofs.AreaLaws.{by_four, four_as}
 use Rattle.area.specs.Numbers.{nat_abs-add, Half, stored, stored-eq, sum_fits, sum_stored}
-use Rattle.area.specs.Places.{Places, places, index_fits}
+use Rattle.area.specs.Places.{Places, places}
 use Rattle.hadamard.specs.Correlation.{constant_of}
 use Rattle.hadamard.specs.CorrelationLaws.{nat_abs-signed}
 use Rattle.projections.specs.FourLaws.{four_lt}
-use Rattle.value_steps.specs.Shares.{voiced, Says, FourSays, FourHears, voices_of, four_said, four_places, Addends}
+use Rattle.value_steps.specs.Shares.{voiced, FourSays, FourHears, voices_of, four_said, signed_at, Addends}
 use Rattle.value_steps.specs.declared.quads.Voices.{Voices}
 
 -- ---- four numbers summed
@@ -84,15 +83,6 @@ module _ {a b c d : ℤ} (ha : Within 1 a) (hb : Within 1 b) (hc : Within 1 c) (
 -- ---- what the four say of one place
 
 module _ {n c o : ℕ} {xs : List ℤ} (t : FourSays n c o xs) where
-  pub says_at : {x : ℕ} (j : ℕ) → x < c + 3 * n + 4 → j < 4 → Says x (o + j) xs
-  says_at j lx lj = record { sign = omega (arith, t.signs); value = omega (arith, t.values); small = t.small j lj }
-
-  pub sign_fits : length xs * 4 < 2 ^ 63 → {x : ℕ} → x ≤ c + 3 * n + 4 → Fits w64 x
-  sign_fits small l = index_fits small (omega (arith, t.signs))
-
-  pub other_fits : length xs * 4 < 2 ^ 63 → (j : ℕ) → j < 4 → Fits w64 (o + j)
-  other_fits small j l = index_fits small (omega (arith, t.values))
-
   voiced_within : {v : ℤ} (w : Bool) (y j : ℕ) → j < 4 → v ≡ voiced w (at xs y) (at xs (o + j)) → Within 1 v
   voiced_within true y j lj e = record { within = omega (arith, ap nat_abs e, nat_abs-signed (constant_of (at xs y)) (at xs (o + j)), t.small j lj) }
   voiced_within false y j lj e = record { within = omega (arith, ap nat_abs e) }
@@ -103,21 +93,26 @@ module _ {n c o : ℕ} {xs : List ℤ} (t : FourSays n c o xs) where
       let each : (l : ℕ) → l < 4 → Within 1 (f l) = λ l hl. voiced_within (w l) (c + l * n + s l) (bit_xor i l) (four_lt hi hl) refl in
       subst (Within 4) (sym (sum_of_four f)) (four_within (each 0 (omega arith)) (each 1 (omega arith)) (each 2 (omega arith)) (each 3 (omega arith)))
 
+  own : (others : Bool) (i : ℕ) → signed_at others i 0 ≡ i
+  own true i = xor_zero_r i
+  own false i = refl
+
   -- what the code has of each
-  module _ (v : Voices) {i s1 s2 s3 : ℕ} (low : (i < 4) × (s1 < 4) × (s2 < 4) × (s3 < 4)) {a b d e : ℤ}
+  module _ (v : Voices) (others : Bool) {i s1 s2 s3 : ℕ} (low : i < 4) {a b d e : ℤ}
+      (e1 : s1 ≡ signed_at others i 1) (e2 : s2 ≡ signed_at others i 2) (e3 : s3 ≡ signed_at others i 3)
       (ea : a ≡ voiced v.a (at xs (c + i)) (at xs (o + i))) (eb : b ≡ voiced v.b (at xs (c + n + s1)) (at xs (o + bit_xor i 1)))
       (ed : d ≡ voiced v.c (at xs (c + 2 * n + s2)) (at xs (o + bit_xor i 2))) (ee : e ≡ voiced v.d (at xs (c + 3 * n + s3)) (at xs (o + bit_xor i 3))) where
     wa : Within 1 a
-    wa = voiced_within v.a (c + i) i low.0 ea
+    wa = voiced_within v.a (c + i) i low ea
 
     wb : Within 1 b
-    wb = voiced_within v.b (c + n + s1) (bit_xor i 1) (four_lt low.0 (omega arith)) eb
+    wb = voiced_within v.b (c + n + s1) (bit_xor i 1) (four_lt low (omega arith)) eb
 
     wd : Within 1 d
-    wd = voiced_within v.c (c + 2 * n + s2) (bit_xor i 2) (four_lt low.0 (omega arith)) ed
+    wd = voiced_within v.c (c + 2 * n + s2) (bit_xor i 2) (four_lt low (omega arith)) ed
 
     we : Within 1 e
-    we = voiced_within v.d (c + 3 * n + s3) (bit_xor i 3) (four_lt low.0 (omega arith)) ee
+    we = voiced_within v.d (c + 3 * n + s3) (bit_xor i 3) (four_lt low (omega arith)) ee
 
     pub heard_two : SFits w32 (stored a +ℤ stored b)
     heard_two = two_fits wa wb wd we
@@ -128,19 +123,21 @@ module _ {n c o : ℕ} {xs : List ℤ} (t : FourSays n c o xs) where
     pub heard_four : SFits w32 (stored (stored (stored a +ℤ stored b) +ℤ stored d) +ℤ stored e)
     heard_four = four_fits wa wb wd we
 
-    pub heard_is : stored (stored (stored (stored a +ℤ stored b) +ℤ stored d) +ℤ stored e) ≡ four_said (voices_of v) (four_places i s1 s2 s3) n c o xs i
+    pub heard_is : stored (stored (stored (stored a +ℤ stored b) +ℤ stored d) +ℤ stored e) ≡ four_said (voices_of v) (signed_at others i) n c o xs i
     heard_is =
-        let f : ℕ → ℤ = λ l. voiced (voices_of v l) (at xs (c + l * n + four_places i s1 s2 s3 l)) (at xs (o + bit_xor i l)) in
-        let zeroth : c + i ≡ c + 0 * n + i = omega arith in
-        let first : c + n + s1 ≡ c + 1 * n + s1 = omega arith in
+        let f : ℕ → ℤ = λ l. voiced (voices_of v l) (at xs (c + l * n + signed_at others i l)) (at xs (o + bit_xor i l)) in
+        let zeroth : c + i ≡ c + 0 * n + signed_at others i 0 = omega (arith, own others i) in
+        let first : c + n + s1 ≡ c + 1 * n + signed_at others i 1 = omega (arith, e1) in
+        let second : c + 2 * n + s2 ≡ c + 2 * n + signed_at others i 2 = omega (arith, e2) in
+        let third : c + 3 * n + s3 ≡ c + 3 * n + signed_at others i 3 = omega (arith, e3) in
         four_is wa wb wd we
         ∙ ap₂ ◌+ℤ◌
         (ap₂ ◌+ℤ◌
         (ap₂ ◌+ℤ◌
         (ea ∙ ap₂ (λ (x y : ℕ). voiced v.a (at xs x) (at xs y)) zeroth (ap (λ (x : ℕ). o + x) (sym (xor_zero_r i))))
         (eb ∙ ap (λ (x : ℕ). voiced v.b (at xs x) (at xs (o + bit_xor i 1))) first))
-        ed)
-        ee
+        (ed ∙ ap (λ (x : ℕ). voiced v.c (at xs x) (at xs (o + bit_xor i 2))) second))
+        (ee ∙ ap (λ (x : ℕ). voiced v.d (at xs x) (at xs (o + bit_xor i 3))) third)
         ∙ sym (sum_of_four f)
 
 -- ---- four numbers added
@@ -173,64 +170,33 @@ module _ {r : ℕ} {a b c d : ℤ} {xs : List ℤ} (t : Addends r a b c d xs) wh
 
 -- ---- a block of places that hears four directions
 
--- v0 to v3 are what they say of its places, by the signs that s0 to s3 give
-pub record Heard (w : ℕ → Bool) (s0 s1 s2 s3 : ℕ → ℕ) (n c o r : ℕ) (xs : List ℤ) (v0 v1 v2 v3 : ℤ) : Type 0 where
+-- v0 to v3 are what they say of its places
+pub record Heard (w : ℕ → Bool) (others : Bool) (n c o r : ℕ) (xs : List ℤ) (v0 v1 v2 v3 : ℤ) : Type 0 where
   pub asks : FourHears n c o r xs
-  pub zeroth : v0 ≡ four_said w s0 n c o xs 0
-  pub first : v1 ≡ four_said w s1 n c o xs 1
-  pub second : v2 ≡ four_said w s2 n c o xs 2
-  pub third : v3 ≡ four_said w s3 n c o xs 3
+  pub zeroth : v0 ≡ four_said w (signed_at others 0) n c o xs 0
+  pub first : v1 ≡ four_said w (signed_at others 1) n c o xs 1
+  pub second : v2 ≡ four_said w (signed_at others 2) n c o xs 2
+  pub third : v3 ≡ four_said w (signed_at others 3) n c o xs 3
 
-module _ {w : ℕ → Bool} {s0 s1 s2 s3 : ℕ → ℕ} {n c o r : ℕ} {xs : List ℤ} {v0 v1 v2 v3 : ℤ} (t : Heard w s0 s1 s2 s3 n c o r xs v0 v1 v2 v3) where
-  half_said : {v : ℤ} (s : ℕ → ℕ) (i : ℕ) → i < 4 → v ≡ four_said w s n c o xs i → Half v
-  half_said s i hi e = subst Half (sym e) (within_half {k = 4} (omega arith) (all_within t.asks.says w s i hi))
+module _ {w : ℕ → Bool} {others : Bool} {n c o r : ℕ} {xs : List ℤ} {v0 v1 v2 v3 : ℤ} (t : Heard w others n c o r xs v0 v1 v2 v3) where
+  half_said : {v : ℤ} (i : ℕ) → i < 4 → v ≡ four_said w (signed_at others i) n c o xs i → Half v
+  half_said i hi e = subst Half (sym e) (within_half {k = 4} (omega arith) (all_within t.asks.says w (signed_at others i) i hi))
 
-  kept : {v : ℤ} (s : ℕ → ℕ) (i : ℕ) → i < 4 → v ≡ four_said w s n c o xs i → stored v ≡ four_said w s n c o xs i
-  kept s i hi e = back (half_said s i hi e) ∙ e
+  kept : {v : ℤ} (i : ℕ) → i < 4 → v ≡ four_said w (signed_at others i) n c o xs i → stored v ≡ four_said w (signed_at others i) n c o xs i
+  kept i hi e = back (half_said i hi e) ∙ e
+
+  all_kept : (i : ℕ) → i < 4 → four_of (stored v0) (stored v1) (stored v2) (stored v3) i ≡ four_said w (signed_at others i) n c o xs i
+  all_kept = by_four (λ (i : ℕ). four_of (stored v0) (stored v1) (stored v2) (stored v3) i ≡ four_said w (signed_at others i) n c o xs i)
+      (kept 0 (omega arith) t.zeroth) (kept 1 (omega arith) t.first) (kept 2 (omega arith) t.second) (kept 3 (omega arith) t.third)
 
   pub heard_adds : Addends r (stored v0) (stored v1) (stored v2) (stored v3) xs
   heard_adds = record {
     room = t.asks.room;
     few = λ i hi. record { half = omega (arith, t.asks.few i hi) };
-    each = by_four (λ (i : ℕ). Half (four_of (stored v0) (stored v1) (stored v2) (stored v3) i))
-        (half_said s0 0 (omega arith) (kept s0 0 (omega arith) t.zeroth))
-        (half_said s1 1 (omega arith) (kept s1 1 (omega arith) t.first))
-        (half_said s2 2 (omega arith) (kept s2 2 (omega arith) t.second))
-        (half_said s3 3 (omega arith) (kept s3 3 (omega arith) t.third));
+    each = λ i hi. half_said i hi (all_kept i hi);
   }
 
-  -- the signs by another name
-  renamed : (s u : ℕ → ℕ) (i : ℕ) → ((l : ℕ) → l < 4 → s l ≡ u l) → four_said w s n c o xs i ≡ four_said w u n c o xs i
-  renamed s u i e =
-      let f : (ℕ → ℕ) → ℕ → ℤ = λ s l. voiced (w l) (at xs (c + l * n + s l)) (at xs (o + bit_xor i l)) in
-      sum_ℤ_ext 4 (f s) (f u) (λ l hl. ap (λ (x : ℕ). voiced (w l) (at xs (c + l * n + x)) (at xs (o + bit_xor i l))) (e l hl))
-
-  pub heard_written : (u : ℕ → ℕ → ℕ) {ys : List ℤ}
-      → ((l : ℕ) → l < 4 → s0 l ≡ u 0 l) → ((l : ℕ) → l < 4 → s1 l ≡ u 1 l) → ((l : ℕ) → l < 4 → s2 l ≡ u 2 l) → ((l : ℕ) → l < 4 → s3 l ≡ u 3 l)
-      → Written (pos 0) r 4 (λ i. at xs (r + i) +ℤ four_of (stored v0) (stored v1) (stored v2) (stored v3) i) xs ys
-      → Written (pos 0) r 4 (λ i. at xs (r + i) +ℤ four_said w (u i) n c o xs i) xs ys
-  heard_written u e0 e1 e2 e3 new =
-      written_as new (λ i. at xs (r + i) +ℤ four_said w (u i) n c o xs i)
-      (λ i hi. ap (λ (x : ℤ). at xs (r + i) +ℤ x)
-      (by_four (λ (i : ℕ). four_of (stored v0) (stored v1) (stored v2) (stored v3) i ≡ four_said w (u i) n c o xs i)
-      (kept s0 0 (omega arith) t.zeroth ∙ renamed s0 (u 0) 0 e0)
-      (kept s1 1 (omega arith) t.first ∙ renamed s1 (u 1) 1 e1)
-      (kept s2 2 (omega arith) t.second ∙ renamed s2 (u 2) 2 e2)
-      (kept s3 3 (omega arith) t.third ∙ renamed s3 (u 3) 3 e3)
-      i hi))
-
--- four places written out are in this order
-pub in_order : (s : ℕ) → (l : ℕ) → l < 4 → four_places s s s s l ≡ s
-in_order s = by_four (λ (l : ℕ). four_places s s s s l ≡ s) refl refl refl refl
-
-pub crossed_0 : (l : ℕ) → l < 4 → four_places 0 1 2 3 l ≡ bit_xor 0 l
-crossed_0 = by_four (λ (l : ℕ). four_places 0 1 2 3 l ≡ bit_xor 0 l) refl refl refl refl
-
-pub crossed_1 : (l : ℕ) → l < 4 → four_places 1 0 3 2 l ≡ bit_xor 1 l
-crossed_1 = by_four (λ (l : ℕ). four_places 1 0 3 2 l ≡ bit_xor 1 l) refl refl refl refl
-
-pub crossed_2 : (l : ℕ) → l < 4 → four_places 2 3 0 1 l ≡ bit_xor 2 l
-crossed_2 = by_four (λ (l : ℕ). four_places 2 3 0 1 l ≡ bit_xor 2 l) refl refl refl refl
-
-pub crossed_3 : (l : ℕ) → l < 4 → four_places 3 2 1 0 l ≡ bit_xor 3 l
-crossed_3 = by_four (λ (l : ℕ). four_places 3 2 1 0 l ≡ bit_xor 3 l) refl refl refl refl
+  pub heard_written : {ys : List ℤ} → Written (pos 0) r 4 (λ i. at xs (r + i) +ℤ four_of (stored v0) (stored v1) (stored v2) (stored v3) i) xs ys
+      → Written (pos 0) r 4 (λ i. at xs (r + i) +ℤ four_said w (signed_at others i) n c o xs i) xs ys
+  heard_written new =
+      written_as new (λ i. at xs (r + i) +ℤ four_said w (signed_at others i) n c o xs i) (λ i hi. ap (λ (x : ℤ). at xs (r + i) +ℤ x) (all_kept i hi))

@@ -7,12 +7,9 @@ use native.Mathlib.Omega.{arith}
 use lib.Bits.{bit_xor}
 use lib.ListN.{length}
 use lib.IntN.{ℤ, pos, nat_abs, ◌+ℤ◌}
-use mir.Syntax.{w64}
-use mir.Val.{Fits}
 use Rattle.words.specs.Written.{Written}
 use Rattle.words.specs.Xor.{xor_twice}
 use Rattle.area.specs.Area.{at}
-use Rattle.area.specs.Places.{index_fits}
 use Rattle.direction.specs.Direction.{coset_of, highest, insert_zero}
 use Rattle.direction.proofs.Members.{Members, members, number_one, number_two}
 use Rattle.cosets.specs.SetBelow.{Blocks, SetBelow, apart_after, still, two_runs, pair_blocks, set_more}
@@ -33,14 +30,6 @@ pub turn_of : {m b c n h q p : ℕ} {xs ys : List ℤ} → Projects m b c xs →
     → SetBelow m b (λ p. at xs (2 ^ suc m + p) +ℤ heard_at b c xs p) xs q ys → Turn m b c xs n q p ys
 turn_of asks sums size l top inserted so_far = record { asks = asks; sums = sums; size = size; coset = members asks.direction l top inserted; so_far = so_far }
 
--- the numbers that the code makes of a turn's places, o being p XOR b
-pub record Rooms (n c q p o : ℕ) : Type 0 where
-  pub twice : Fits w64 (2 * n)
-  pub sign : Fits w64 (c + q)
-  pub one : Fits w64 (2 * n + p)
-  pub two : Fits w64 (2 * n + o)
-  pub next : Fits w64 (q + 1)
-
 module _ {m b c n q p : ℕ} {xs ys : List ℤ} (t : Turn m b c xs n q p ys) where
   abbrev o : ℕ
   o = bit_xor p b
@@ -56,17 +45,6 @@ module _ {m b c n q p : ℕ} {xs ys : List ℤ} (t : Turn m b c xs n q p ys) whe
 
   room : c + q < length ys
   room = omega (arith, t.so_far.long, t.asks.room, t.coset.number)
-
-  pub rooms : length xs * 4 < 2 ^ 63 → Rooms n c q p o
-  rooms small =
-      let fit : (x : ℕ) → x ≤ c + 2 ^ m → Fits w64 x = λ x l. index_fits small (omega (arith, t.asks.room)) in
-      record {
-        twice = fit _ (omega (arith, t.asks.beyond, t.size));
-        sign = fit _ (omega (arith, t.coset.number));
-        one = fit _ (omega (arith, t.asks.beyond, t.size, t.coset.place));
-        two = fit _ (omega (arith, t.asks.beyond, t.size, t.coset.partner));
-        next = fit _ (omega (arith, t.coset.number));
-      }
 
   abbrev f : ℕ → ℤ
   f r = at xs (2 ^ suc m + r) +ℤ heard_at b c xs r

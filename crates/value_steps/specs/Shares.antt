@@ -45,6 +45,10 @@ four_words a b c d (suc (suc (suc l))) = d
 abbrev pub voices_of : Voices → ℕ → Bool
 voices_of v = four_words v.a v.b v.c v.d
 
+-- all four, where that is told beside
+abbrev pub speaking : Bool → Voices → Voices
+speaking all v = cond all (record { a = true; b = true; c = true; d = true }) v
+
 -- what those of directions 4 × k to 4 × k + 3 that have words say of place p
 abbrev pub words_at : ℕ → ℕ → (ℕ → Bool) → List ℤ → ℕ → ℤ
 words_at m k w xs p = sum_below_ℤ 4 (λ l. word_at (w l) (4 * k + l) (4 * 2 ^ m + l * 2 ^ m) xs p)
@@ -70,12 +74,9 @@ pub record FourHears (n c o r : ℕ) (xs : List ℤ) : Type 0 where
 abbrev pub four_said : (ℕ → Bool) → (ℕ → ℕ) → ℕ → ℕ → ℕ → List ℤ → ℕ → ℤ
 four_said w s n c o xs i = sum_below_ℤ 4 (λ l. voiced (w l) (at xs (c + l * n + s l)) (at xs (o + bit_xor i l)))
 
--- four places in this order
-abbrev pub four_places : ℕ → ℕ → ℕ → ℕ → ℕ → ℕ
-four_places s t u v zero = s
-four_places s t u v (suc zero) = t
-four_places s t u v (suc (suc zero)) = u
-four_places s t u v (suc (suc (suc l))) = v
+-- the sign of direction l that counts for place i of a block: of the representatives, or of the other members, whose coset is i XOR l
+abbrev pub signed_at : Bool → ℕ → ℕ → ℕ
+signed_at others i l = cond others (bit_xor i l) i
 
 -- four numbers that can be added to those from r on
 pub record Addends (r : ℕ) (a b c d : ℤ) (xs : List ℤ) : Type 0 where

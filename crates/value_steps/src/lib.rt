@@ -21,6 +21,7 @@ pub fn project(m: usize, b: usize, c: usize, area: &mut [i32])
 {
     let n = words::size(m);
     let h = highest_bit(b);
+    // To q != n: of q < n, n a power of 2, the compiler makes a shift in every turn.
     let mut q = 0;
     while q != n {
         let p = insert_zero(h, q);
@@ -58,6 +59,7 @@ pub fn share(m: usize, b: usize, c: usize, area: &mut [i32])
 {
     let n = words::size(m);
     let h = highest_bit(b);
+    // To q != n: of q < n, n a power of 2, the compiler makes a shift in every turn.
     let mut q = 0;
     while q != n {
         let p = insert_zero(h, q);

@@ -1,13 +1,12 @@
 // Four directions at a time, 4 k to 4 k + 3: they have the same highest one, and their low digits l = 0 to 3 only exchange the places of a
 // block of 4. Blocks are read whole before a block is written, and the two of a turn one after the other, so that four numbers go together.
-// The loops test q != n: of q < n, n a power of 2, the compiler makes a shift in every turn.
 ghost use Rattle.std.specs.Prelude.{◌≡◌, suc, ◌+◌, ◌*◌, ◌^◌, ◌<◌, pos, ◌+ℤ◌};
 ghost use Rattle.std.specs.Int.Bits.{bit_xor};
 ghost use Rattle.words.specs.Written.{Written};
 ghost use Rattle.area.specs.Area.{at, four_of};
-ghost use Rattle.confidences.specs.Values.{front_of, Sums, ProjectsFour, four_projected, four_heard};
+ghost use Rattle.confidences.specs.Values.{front_of, Sums, ProjectsFour, four_projected};
 ghost use Rattle.value_steps.specs.Pairs.{ValuePair, ValueBlocks, pair_joint};
-ghost use Rattle.value_steps.specs.Shares.{Says, FourSays, FourHears, four_said, four_places, voices_of, words_at, Addends};
+ghost use Rattle.value_steps.specs.Shares.{Says, FourSays, FourHears, four_said, signed_at, speaking, voices_of, words_at, Addends};
 
 use crate::magnitudes::joint;
 use crate::said;
@@ -43,15 +42,14 @@ pub fn project_four(m: usize, k: usize, area: &mut [i32])
     let n = words::size(m);
     let w = 4 * k;
     let h = highest_bit(w);
-    let mut q = 0;
-    while q != n {
+    for j in 0..n / 4 {
+        let q = 4 * j;
         let p = insert_zero(h, q);
         let z = p ^ w;
         join_four(area, 4 * n + q, p, z, 0);
         join_four(area, 5 * n + q, p, z, 1);
         join_four(area, 6 * n + q, p, z, 2);
         join_four(area, 7 * n + q, p, z, 3);
-        q += 4;
     }
 }
 
@@ -75,23 +73,22 @@ fn voiced(w: bool, area: &[i32], c: usize, o: usize) -> i32
     if w { t } else { 0 }
 }
 
-// What the four directions say of place i of a block, the other members in the block at o: their signs stand n apart from c on, and those that
-// count are at i, s1, s2 and s3.
-fn heard(
-    area: &[i32],
-    n: usize,
-    c: usize,
-    o: usize,
-    i: usize,
-    s1: usize,
-    s2: usize,
-    s3: usize,
-    v: Voices,
-) -> i32
-    requires four_says { FourSays n c o area.now }
-    requires i_bound { (i < 4) × (s1 < 4) × (s2 < 4) × (s3 < 4) }
-    ensures { result ≡ four_said (voices_of v) (four_places i s1 s2 s3) n c o area.now i }
+// Where in a block the sign of direction l stands that counts for place i: of the representatives at i, of the other members at i XOR l.
+fn sign_of<const OTHERS: bool>(i: usize, l: usize) -> usize
+    ensures { result ≡ signed_at OTHERS i l }
 {
+    if OTHERS { i ^ l } else { i }
+}
+
+// What the four directions say of place i of a block, the other members in the block at o: their signs stand n apart from c on.
+fn heard<const OTHERS: bool>(area: &[i32], n: usize, c: usize, o: usize, i: usize, v: Voices) -> i32
+    requires four_says { FourSays n c o area.now }
+    requires i_bound { i < 4 }
+    ensures { result ≡ four_said (voices_of v) (signed_at OTHERS i) n c o area.now i }
+{
+    let s1 = sign_of::<OTHERS>(i, 1);
+    let s2 = sign_of::<OTHERS>(i, 2);
+    let s3 = sign_of::<OTHERS>(i, 3);
     let t0 = voiced(v.a, area, c + i, o + i);
     let t1 = voiced(v.b, area, c + n + s1, o + (i ^ 1));
     let t2 = voiced(v.c, area, c + 2 * n + s2, o + (i ^ 2));
@@ -111,70 +108,58 @@ fn add_four(area: &mut [i32], r: usize, v0: i32, v1: i32, v2: i32, v3: i32)
     area::put_four(area, r, a0, a1, a2, a3);
 }
 
-// Adds to the sums from r on what the four directions say of the representatives, the other members in the block at o.
-fn hear_four(area: &mut [i32], n: usize, c: usize, o: usize, r: usize, v: Voices)
+// Adds to the sums from r on what the four directions say of the places of a block, the representatives or the others; the other members are in
+// the block at o.
+fn hear_four<const OTHERS: bool>(
+    area: &mut [i32],
+    n: usize,
+    c: usize,
+    o: usize,
+    r: usize,
+    v: Voices,
+)
     requires { FourHears n c o r area.old }
-    ensures { Written (pos 0) r 4 (λ i. at area.old (r + i) +ℤ four_said (voices_of v) (λ _. i) n c o area.old i) area.old area.new }
+    ensures { Written (pos 0) r 4 (λ i. at area.old (r + i) +ℤ four_said (voices_of v) (signed_at OTHERS i) n c o area.old i) area.old area.new }
 {
-    let v0 = heard(area, n, c, o, 0, 0, 0, 0, v);
-    let v1 = heard(area, n, c, o, 1, 1, 1, 1, v);
-    let v2 = heard(area, n, c, o, 2, 2, 2, 2, v);
-    let v3 = heard(area, n, c, o, 3, 3, 3, 3, v);
+    let v0 = heard::<OTHERS>(area, n, c, o, 0, v);
+    let v1 = heard::<OTHERS>(area, n, c, o, 1, v);
+    let v2 = heard::<OTHERS>(area, n, c, o, 2, v);
+    let v3 = heard::<OTHERS>(area, n, c, o, 3, v);
     add_four(area, r, v0, v1, v2, v3);
 }
 
-// And of the other members: place i is in coset i XOR l of direction l.
-fn hear_others(area: &mut [i32], n: usize, c: usize, o: usize, r: usize, v: Voices)
-    requires { FourHears n c o r area.old }
-    ensures { Written (pos 0) r 4 (λ i. at area.old (r + i) +ℤ four_said (voices_of v) (bit_xor i) n c o area.old i) area.old area.new }
+// All four where ALL says so, and else those that have a word.
+fn speakers<const ALL: bool>(v: Voices) -> Voices
+    ensures { result ≡ speaking ALL v }
 {
-    let v0 = heard(area, n, c, o, 0, 1, 2, 3, v);
-    let v1 = heard(area, n, c, o, 1, 0, 3, 2, v);
-    let v2 = heard(area, n, c, o, 2, 3, 0, 1, v);
-    let v3 = heard(area, n, c, o, 3, 2, 1, 0, v);
-    add_four(area, r, v0, v1, v2, v3);
-}
-
-// Adds to each place's sum what those of the four directions that have a word say of it, by the signs that stand where their projections were.
-pub fn share_some(m: usize, k: usize, v: Voices, area: &mut [i32])
-    requires projects_four { ProjectsFour m k area.old }
-    requires sums { Sums (2 ^ suc m) area.old }
-    ensures { Written (pos 0) (2 ^ suc m) (2 ^ suc m) (λ p. at area.old (2 ^ suc m + p) +ℤ words_at m k (voices_of v) area.old p) area.old area.new }
-{
-    let n = words::size(m);
-    let w = 4 * k;
-    let h = highest_bit(w);
-    let mut q = 0;
-    while q != n {
-        let p = insert_zero(h, q);
-        let z = p ^ w;
-        hear_four(area, n, 4 * n + q, z, 2 * n + p, v);
-        hear_others(area, n, 4 * n + q, p, 2 * n + z, v);
-        q += 4;
+    if ALL {
+        Voices {
+            a: true,
+            b: true,
+            c: true,
+            d: true,
+        }
+    } else {
+        v
     }
 }
 
-// The same where all four have a word: a literal, of which the compiler drops the tests.
-pub fn share_four(m: usize, k: usize, area: &mut [i32])
+// Adds to each place's sum what those of the four directions that have a word say of it, by the signs that stand where their projections were.
+// Where ALL have one that is a literal, of which the compiler drops the tests.
+pub fn share_four<const ALL: bool>(m: usize, k: usize, v: Voices, area: &mut [i32])
     requires projects_four { ProjectsFour m k area.old }
     requires sums { Sums (2 ^ suc m) area.old }
-    ensures { Written (pos 0) (2 ^ suc m) (2 ^ suc m) (λ p. at area.old (2 ^ suc m + p) +ℤ four_heard m k area.old p) area.old area.new }
+    ensures { Written (pos 0) (2 ^ suc m) (2 ^ suc m) (λ p. at area.old (2 ^ suc m + p) +ℤ words_at m k (voices_of (speaking ALL v)) area.old p) area.old area.new }
 {
     let n = words::size(m);
     let w = 4 * k;
     let h = highest_bit(w);
-    let v = Voices {
-        a: true,
-        b: true,
-        c: true,
-        d: true,
-    };
-    let mut q = 0;
-    while q != n {
+    let speak = speakers::<ALL>(v);
+    for j in 0..n / 4 {
+        let q = 4 * j;
         let p = insert_zero(h, q);
         let z = p ^ w;
-        hear_four(area, n, 4 * n + q, z, 2 * n + p, v);
-        hear_others(area, n, 4 * n + q, p, 2 * n + z, v);
-        q += 4;
+        hear_four::<false>(area, n, 4 * n + q, z, 2 * n + p, speak);
+        hear_four::<true>(area, n, 4 * n + q, p, 2 * n + z, speak);
     }
 }

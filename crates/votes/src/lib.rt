@@ -10,8 +10,8 @@ ghost use Rattle.projections.specs.Fours.{InFours};
 use direction::highest_bit;
 use four_votes::vote_four;
 
-// Adds the votes of the direction w + l, from 4 on, by blocks of 4 cosets. The loop tests q != n: of q < n, n a power of 2, the compiler
-// makes a shift in every turn.
+// Adds the votes of the direction w + l, from 4 on, by blocks of 4 cosets. It is taken into each call, so that l is a literal there.
+#[inline(always)]
 pub fn vote_fours(m: usize, h: usize, w: usize, l: usize, area: &mut [i32])
     requires in_fours { InFours h w l }
     requires projects { Projects m (w + l) area.old }
@@ -20,15 +20,14 @@ pub fn vote_fours(m: usize, h: usize, w: usize, l: usize, area: &mut [i32])
     ensures { Written (pos 0) (2 ^ suc m) (2 ^ suc m) (λ p. at area.old (2 ^ suc m + p) +ℤ pos (cast_vote m (w + l) area.old p)) area.old area.new }
 {
     let n = words::size(m);
-    let mut q = 0;
-    while q != n {
+    for k in 0..n / 4 {
+        let q = 4 * k;
         let p = direction::insert_zero(h, q);
         vote_four(area, n, q, p, p ^ w, l);
-        q += 4;
     }
 }
 
-// Adds direction b's votes.
+// Adds direction b's votes. The low digits are a literal in each call, of which the compiler makes one shuffle.
 pub fn add_votes(m: usize, b: usize, area: &mut [i32])
     requires projects { Projects m b area.old }
     requires tally { Tally (2 ^ suc m) b area.old }

@@ -1,5 +1,5 @@
 -- Where no meter is left to send, each was read, right or as another codeword, or is among those never read. Assumes nothing.
-use Rattle.std.specs.Prelude.{ℕ, zero, suc, ◌+◌, ◌≤◌, ◌<◌, ◌≡◌, ◌≢◌, Bool, ◌&&◌, List, [], ◌∷◌, length, replicate, set}
+use Rattle.std.specs.Prelude.{ℕ, zero, suc, ◌+◌, ◌≤◌, ◌<◌, ◌≡◌, ◌≢◌, Bool, ◌&&◌, List, [], ◌∷◌, length, replicate, set, Some, None}
 use Rattle.std.proofs.Math.Decide.{dec_lt}
 use Rattle.std.proofs.Common.{add-one, arith, sym, ◌∙◌, subst, eq-eqb, ne_eqb}
 use Rattle.std.proofs.Math.Path.{refl, ap}
@@ -10,8 +10,8 @@ use Rattle.std.proofs.lemmas.List.{get_or-replicate}
 use Rattle.words.specs.Sum.{sum_below, total}
 use Rattle.words.specs.SumLaws.{sum_ext, sum_same, sum_zero}
 use Rattle.words.specs.Word.{indicator}
-use Rattle.tables.specs.declared.Slot.{Slot}
-use Rattle.streets.specs.Street.{Answered, Step, answer_to, count_steps, is_other, is_refused, is_right, load_at, other, other_in, refusal, right, right_in, sender_after, steps_after, with_step}
+use Rattle.tables.specs.Tables.{Slot, held}
+use Rattle.streets.specs.Street.{Answered, Meter, Nobody, Sender, Step, answer_to, count_steps, is_other, is_refused, is_right, load_at, other, other_in, refusal, right, right_in, sender_after, steps_after, with_step}
 use Rattle.streets.specs.State.{next_due, sender_of, shows_by, street_by, street_after}
 use Rattle.streets.specs.MeterLaws.{Due, due_first, due_none, due_skips, due_stands, is_due, last_turn, none_refused, sends_again, sends_now}
 use Rattle.streets.specs.Standing.{new_due, same_due}
@@ -19,8 +19,6 @@ use Rattle.streets.specs.Represents.{Represents, represents, steps_suc, street_s
 use Rattle.streets.specs.StreetLaws.{street_sender}
 use Rattle.streets.specs.declared.Plan.{Plan}
 use Rattle.streets.specs.declared.Street.{Street}
-use Rattle.streets.specs.declared.meters.Sender.{Sender}
-use Rattle.streets.specs.declared.meters.Sender.TheVariants.{Nobody, Meter}
 use Rattle.street_report.specs.Report.{never_in}
 
 -- ---- sums in which one term changes
@@ -133,8 +131,8 @@ module _ (plan : Plan) where
 -- ---- after every step
 
 abbrev is_meter : Sender → Bool
-is_meter Nobody = false
-is_meter (Meter i k) = true
+is_meter None = false
+is_meter (Some v) = true
 
 module _ (slot : Slot) (plan : Plan) (start : ℕ) (few : plan.meters ≤ 256) where
   abbrev steps : ℕ → List Step
@@ -176,7 +174,7 @@ module _ (slot : Slot) (plan : Plan) (start : ℕ) (few : plan.meters ≤ 256) w
     unfolding with_step
     sends turn at w c first m =
         let (from, is) = due_stands due meters at first m in
-        let x : Step = record { meter = w; try = turn; answer = answer_to slot.profile plan.wrong (load_at slot plan start l) } in
+        let x : Step = record { meter = w; try = turn; answer = answer_to (held slot) plan.wrong (load_at slot plan start l) } in
         rw r.state (shared_sent plan c x refl from m (omega (arith, r.size)) is (due_skips due meters at first))
 
     nobody : After l s Nobody

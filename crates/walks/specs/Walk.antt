@@ -1,7 +1,8 @@
 -- Walks along a street, step by step until no meter is left: what the program keeps, and what it comes to. Assumes nothing.
-use Rattle.std.specs.Prelude.{ℕ, ◌*◌, ◌≤◌, ◌≡◌, Bool, true, false, cond, List, [], eqb}
+use Rattle.std.specs.Prelude.{ℕ, ◌*◌, ◌≤◌, ◌≡◌, ◌≢◌, Bool, cond, IsErrAnd, Option, Some, None, Result, Ok, Err, List, [], eqb}
 use Rattle.refusals.specs.Refusals.{first_refusal, number_of}
-use Rattle.tables.specs.declared.Slot.{Slot}
+use Rattle.refusals.specs.declared.Refusal.{Refusal}
+use Rattle.tables.specs.Tables.{Slot}
 use Rattle.capture.specs.Capture.{word_size}
 use Rattle.streets.specs.Street.{Step, steps_after}
 use Rattle.streets.specs.State.{Showing, shows_none, refused, setting_checks, step, street_by}
@@ -9,46 +10,17 @@ use Rattle.streets.specs.declared.Plan.{Plan}
 use Rattle.street_settings.specs.declared.Settings.{Settings}
 use Rattle.street_report.specs.Report.{counts_of, plus_step, step_line}
 use Rattle.street_report.specs.declared.Counts.{Counts}
-use Rattle.walks.specs.declared.Next.{Next}
-use Rattle.walks.specs.declared.Next.TheVariants as next
 use Rattle.walks.specs.declared.Walk.{Walk}
 
 -- the street's settings among the program's
 abbrev pub plan_of : Settings → Plan
 plan_of s = record { wrong = s.wrong; meters = s.meters; retries = s.retries }
 
--- a walk goes on, is at its end, or stopped at a refusal
-pub data Going : Type 0 where
-  on : Going
-  at_end : Going
-  stopped : ℕ → Going
-
-abbrev pub going_by : Next → Going
-going_by next.Step = on
-going_by next.End = at_end
-going_by (next.Refused why) = stopped (number_of why)
-
-abbrev pub is_on : Going → Bool
-is_on on = true
-is_on at_end = false
-is_on (stopped number) = false
-
--- ---- one step that shows x
-
-abbrev pub going_after : Showing → Going
-going_after (step x) = on
-going_after shows_none = at_end
-going_after (refused number) = stopped number
-
-abbrev pub counts_after : ℕ → Counts → Showing → Counts
-counts_after retries c (step x) = plus_step retries c x.try x.answer
-counts_after retries c shows_none = c
-counts_after retries c (refused number) = c
-
-pub record Onward (slot : Slot) (plan : Plan) (x : Showing) (w w' : Walk) : Type 0 where
-  pub street : w'.street ≡ street_by slot plan w.street x
-  pub counts : w'.counts ≡ counts_after plan.retries w.counts x
-  pub going : going_by w'.next ≡ going_after x
+-- after one step that shows x: the walk goes on, is at its end, or stops at a refusal
+abbrev pub Onward : Slot → Plan → Walk → Result (Option Walk) Refusal → Showing → Type 0
+Onward slot plan w r (step x) = r ≡ Ok (Some (record { street = street_by slot plan w.street (step x); counts = plus_step plan.retries w.counts x.try x.answer }))
+Onward slot plan w r shows_none = r ≡ Ok None
+Onward slot plan w r (refused number) = IsErrAnd r (λ why. number_of why ≡ number)
 
 -- the line of what a step shows, where lines are asked for
 abbrev pub line_of : Bool → Showing → List ℕ
@@ -73,6 +45,12 @@ module _ (slot : Slot) (plan : Plan) (start : ℕ) where
   steps_made = cond (eqb refusal 0) (steps_after slot plan start 4096) []
 
   -- a walk from the start ends with no meter left, unless the settings are refused before the first step; its counts are those of the steps
-  pub record Walked (w : Walk) : Type 0 where
-    pub going : going_by w.next ≡ cond (eqb refusal 0) at_end (stopped refusal)
-    pub counts : w.counts ≡ counts_of plan.retries steps_made
+  abbrev pub Walked : Result Counts Refusal → Type 0
+  Walked (Ok c) = (refusal ≡ 0) × (c ≡ counts_of plan.retries steps_made)
+  Walked (Err why) = (refusal ≢ 0) × (number_of why ≡ refusal)
+
+  -- the same of the loop that makes it, whose turns suffice
+  abbrev pub Ended : Result (Option Counts) Refusal → Type 0
+  Ended (Ok (Some c)) = Walked (Ok c)
+  Ended (Ok None) = ⊥
+  Ended (Err why) = Walked (Err why)

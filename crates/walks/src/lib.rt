@@ -3,32 +3,24 @@
 
 ghost use Rattle.std.specs.Prelude.{◌≡◌, false, ◌^◌, ◌≤◌, length};
 ghost use Rattle.std.specs.Io.KnownBytes.{Appends};
-ghost use Rattle.tables.specs.Tables.{ours, slot_of};
+ghost use Rattle.tables.specs.Tables.{held, ours, slot_of};
 ghost use Rattle.streets.specs.State.{shows};
 ghost use Rattle.street_report.specs.Report.{step_line, step_of};
-ghost use Rattle.walks.specs.Walk.{Lent, Onward, Walked, going_by, is_on, line_of, plan_of};
+ghost use Rattle.walks.specs.Walk.{Ended, Lent, Onward, Walked, line_of, plan_of};
 
 use refusals::Refusal;
 use std::io::Write;
 use street_report::Counts;
 use street_settings::Settings;
-use streets::{Fate, Plan, Shown, Street};
+use streets::{Fate, Plan, Street};
+use tables::{Profiles, Standard};
 use turns::{Stream, sent};
 
-// What comes after a step: another, or the walk is at its end, with no meter left, or the settings are refused.
+// The street, and what was counted on the way.
 #[derive(Clone, Copy)]
-pub enum Next {
-    Step,
-    End,
-    Refused(Refusal),
-}
-
-// The street, what was counted on the way, and what comes next.
-#[derive(Clone, Copy)]
-pub struct Walk {
-    pub street: Street,
-    pub counts: Counts,
-    pub next: Next,
+struct Walk {
+    street: Street,
+    counts: Counts,
 }
 
 // Prints the line of a step.
@@ -41,15 +33,15 @@ fn show<W: Write>(to: &mut Stream<W>, meter: usize, attempt: usize, fate: Fate)
     sent(to, &out[..n]);
 }
 
-// One step, its line where lines are asked for, and its counts.
+// One step, its line where lines are asked for, and its counts; None where no meter is left to send.
 fn step<W: Write>(
     s: Settings,
     w: Walk,
     to: &mut Stream<W>,
     block: &mut [u8],
     area: &mut [i32],
-) -> Walk
-    ensures onward { Onward (slot_of ours s.profile) (plan_of s) (shows (slot_of ours s.profile) (plan_of s) w.street (length block.old) (length area.old)) w result }
+) -> Result<Option<Walk>, Refusal>
+    ensures onward { Onward (slot_of ours s.profile) (plan_of s) w result (shows (slot_of ours s.profile) (plan_of s) w.street (length block.old) (length area.old)) }
     ensures shown { to.new.failed ≡ false → Appends (W.contents to.old.inner) (W.contents to.new.inner) (line_of s.summary (shows (slot_of ours s.profile) (plan_of s) w.street (length block.old) (length area.old))) }
     ensures failing { to.new.failed ≡ false → to.old.failed ≡ false }
 {
@@ -58,77 +50,67 @@ fn step<W: Write>(
         meters: s.meters,
         retries: s.retries,
     };
-    let stepped = streets::step_profile(s.profile, plan, w.street, block, area);
-    let shown = stepped.shown;
+    let stepped = streets::step(&Standard, s.profile, plan, w.street, block, area);
     let street = stepped.street;
-    let counts = w.counts;
+    let shown = stepped.shown?;
     match shown {
-        Shown::Sent(meter, attempt, fate) => {
+        Some(block_sent) => {
+            let meter = block_sent.meter;
+            let attempt = block_sent.turn;
+            let fate = block_sent.fate;
             if !s.summary {
                 show(to, meter, attempt, fate);
             }
-            Walk {
+            Ok(Some(Walk {
                 street,
-                counts: street_report::counted(counts, s.retries, attempt, fate),
-                next: Next::Step,
-            }
+                counts: street_report::counted(w.counts, s.retries, attempt, fate),
+            }))
         }
-        Shown::NoneLeft => Walk {
-            street,
-            counts,
-            next: Next::End,
-        },
-        Shown::Refused(why) => Walk {
-            street,
-            counts,
-            next: Next::Refused(why),
-        },
+        None => Ok(None),
     }
 }
 
-// Whether another step comes.
-fn goes_on(w: &Walk) -> bool
-    ensures { result ≡ is_on (going_by w.now.next) }
-{
-    match w.next {
-        Next::Step => true,
-        Next::End => false,
-        Next::Refused(_) => false,
-    }
-}
-
-// From the start until no meter is left to send: 256 meters send at most 16 times, and one step more says that none is left.
-fn walk_in<W: Write>(s: Settings, to: &mut Stream<W>, block: &mut [u8], area: &mut [i32]) -> Walk
+// From the start until no meter is left to send: 256 meters send at most 16 times, and one step more says that none is left. None where the
+// turns do not suffice.
+fn walk_in<W: Write>(
+    s: Settings,
+    to: &mut Stream<W>,
+    block: &mut [u8],
+    area: &mut [i32],
+) -> Result<Option<Counts>, Refusal>
     requires { Lent (slot_of ours s.profile) (length block.old) (length area.old) }
-    ensures { Walked (slot_of ours s.profile) (plan_of s) s.start result }
+    ensures { Ended (slot_of ours s.profile) (plan_of s) s.start result }
 {
     let mut w = Walk {
         street: streets::begin(s.start),
         counts: street_report::no_counts(),
-        next: Next::Step,
     };
-    let mut left = 4097usize;
-    while left > 0 && goes_on(&w) {
-        left -= 1;
-        w = step(s, w, to, block, area);
+    for _ in 0..4097usize {
+        match step(s, w, to, block, area)? {
+            Some(more) => w = more,
+            None => return Ok(Some(w.counts)),
+        }
     }
-    w
+    Ok(None)
 }
 
 // The places of a block of the profile.
 fn places(profile: usize) -> usize
-    ensures { (result ≡ 2 ^ (slot_of ours profile).profile.m) × (result ≤ 1024) }
+    ensures { (result ≡ 2 ^ (held (slot_of ours profile)).m) × (result ≤ 1024) }
 {
-    let slot = tables::look_ours(profile);
-    words::size(slot.profile.m)
+    match Standard.look(profile) {
+        Some(entry) => words::size(entry.m),
+        None => 1,
+    }
 }
 
-// A walk with buffers of its own.
-pub fn walk_street<W: Write>(s: Settings, to: &mut Stream<W>) -> Walk
+// What a walk counts, with buffers of its own, or why the settings are refused.
+pub fn walk_street<W: Write>(s: Settings, to: &mut Stream<W>) -> Result<Counts, Refusal>
     ensures { Walked (slot_of ours s.profile) (plan_of s) s.start result }
 {
     let n = places(s.profile);
     let mut block = [0u8; 1024];
     let mut area = [0i32; 8192];
-    walk_in(s, to, &mut block[..n], &mut area)
+    let counts = walk_in(s, to, &mut block[..n], &mut area)?;
+    Ok(counts.unwrap())
 }

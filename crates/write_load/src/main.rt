@@ -5,11 +5,13 @@ ghost use Rattle.std.specs.Prelude.{◌≡◌, length};
 ghost use Rattle.tables.specs.Tables.{ours, slot_of};
 ghost use Rattle.load.specs.Records.{capture_of};
 
+use tables::Standard;
+
 fn fill(out: &mut [u8])
     requires { length out.old ≡ 1305 }
     ensures { out.new ≡ capture_of (slot_of ours 1) 1 3 1 100 }
 {
-    load::write_capture_profile(1, 1, 3, 100, out);
+    load::write_capture(&Standard, 1, 1, 3, 100, out);
 }
 
 // A write that fails ends the program quietly.

@@ -4,16 +4,17 @@ use mathlib.Core.Path.{◌≡◌, refl, sym, ◌∙◌}
 use native.Mathlib.Omega.{arith}
 use lib.Pow.{pow_mono}
 use Rattle.area.specs.Area.{size_at, word_of}
-use Rattle.area.proofs.AreaLaws.{bit-word_of, bits_fewer, word_of_word}
+use Rattle.area.proofs.AreaLaws.{bit-word_of, word_of_word}
 use Rattle.code.specs.Code.{codeword_test}
 use Rattle.code.specs.FirstOrder.{levels_test}
 use Rattle.code.proofs.FirstOrderLaws.{levels_fail, levels_test_lem}
+use Rattle.affine_test.specs.MarkLaws.{bits_marked, marked_fewer}
 use Rattle.affine_test.proofs.is_affine.Goals as goal
 
 pub levels_from-requires : goal.levels_from-requires
 unfolding levels_test
 levels_from-requires c =
-    record { first_le_m = (omega arith, c.requires.0, c.requires.1); area_value = refl }
+    record { first_le_m = (omega arith, c.requires.0, bits_marked c.requires.1); area_value = refl }
 
 pub returns-then-m-lt3 : goal.returns-then-m-lt3
 returns-then-m-lt3 c =
@@ -24,7 +25,7 @@ returns-then-m-lt3 c =
 
 pub first_levels-requires : goal.first_levels-requires
 first_levels-requires c =
-    bits_fewer (pow_mono {i = 3} (omega arith)) c.requires.1
+    marked_fewer (pow_mono {i = 3} (omega arith)) (bits_marked c.requires.1)
 
 pub returns-then-not-first_levels : goal.returns-then-not-first_levels
 returns-then-not-first_levels c =
@@ -36,7 +37,7 @@ returns-then-not-first_levels c =
 
 pub levels_from-requires-2 : goal.levels_from-requires-2
 levels_from-requires-2 c =
-    record { first_le_m = (omega arith, c.requires.0, c.requires.1); area_value = sym c.first_levels.ensures ∙ c.if-not-first_levels.false }
+    record { first_le_m = (omega arith, c.requires.0, bits_marked c.requires.1); area_value = sym c.first_levels.ensures ∙ c.if-not-first_levels.false }
 
 pub returns : goal.returns
 returns c =

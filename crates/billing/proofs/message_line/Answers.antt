@@ -1,14 +1,10 @@
 -- `billing::message_line` meets its contract: the message reader cannot refuse a codeword. Assumes nothing.
-use Prim.Native.Nat.{ℕ}
-use mathlib.Core.Path.{sym, ap, subst}
-use mathlib.Core.List.{List}
-use lib.ListN.{length}
+use Rattle.std.proofs.Common.{List, arith, ap, length, subst, sym, ℕ}
 use Rattle.lines.specs.Lines.{accepted_line}
-use Rattle.text.specs.Texts.{Appended, Bits}
+use Rattle.text.specs.Texts.{Added, Bits}
 use Rattle.lines.specs.LineLaws.{accepted_length}
 use Rattle.code.proofs.MessageLaws.{message_bits, message_length}
 use Rattle.billing.specs.MessageLines.{reads_message}
-use native.Mathlib.Omega.{arith}
 use Rattle.billing.proofs.message_line.Goals as goal
 
 pub put_accepted-requires : goal.put_accepted-requires
@@ -24,5 +20,4 @@ put_accepted-requires c =
 pub returns : goal.returns
 returns c =
     let e = reads_message c.requires.0 c.read_message.ensures in
-    subst (λ (l : List ℕ). Appended c.args.out.now c.args.at (accepted_line c.args.serial l) c.put_accepted.result c.put_accepted.new.out) e
-    c.put_accepted.ensures
+    subst (λ (l : List ℕ). Added (accepted_line c.args.serial l) c.args.w.now c.put_accepted.new.w) e c.put_accepted.ensures

@@ -1,16 +1,15 @@
 -- The greatest key gives the size and the mask of a pair, whose numbers lead to the peak. Assumes nothing.
-use Rattle.std.specs.Prelude.{ℕ, ◌<◌, ◌^◌, ◌/◌, ◌%◌, ◌≡◌, refl, List, ℤ, pos, nat_abs, T}
-use Rattle.std.proofs.Common.{ap, ◌∙◌, arith, Fits}
+use Rattle.std.specs.Prelude.{ℕ, ◌<◌, ◌^◌, ◌/◌, ◌%◌, ◌≡◌, List, ℤ, pos, nat_abs, T}
+use Rattle.std.proofs.Common.{sym, ap, ◌∙◌, arith, Fits}
 use Rattle.std.specs.Int.{w32}
 use Rattle.std.specs.Int.Signed.{mag, non_neg}
 use Rattle.area.specs.Area.{at}
 use Rattle.area.specs.Numbers.{stored, stored-eq}
-use Rattle.hadamard.specs.CorrelationLaws.{constant_of-lt}
 use Rattle.keys.specs.Keys.{greatest_key}
 use Rattle.quads.specs.Quads.{Bounded, Raisable}
 use Rattle.peaks.specs.Stored.{as_it_is, number_read}
 use Rattle.block_peak.specs.Sought.{Sought}
-use Rattle.block_peak.specs.QuadPeaks.{firsts, lasts, quad_sizes_small, Top, top_found, top_peak, top_first, top_last, top_quad_below}
+use Rattle.block_peak.specs.QuadPeaks.{firsts, lasts, quad_sizes_small, Top, top_found, top_peak, top_shared, top_first, top_last, top_quad_below}
 use Rattle.block_peak.proofs.find_peak.Goals as goal
 
 -- ---- the greatest key, as the code has it
@@ -47,6 +46,15 @@ bounds-quads-j c = top_quad_below (top_at c.requires c.greatest_key-top.type_inv
 pub pair_at-pair-requires : goal.pair_at-pair-requires
 pair_at-pair-requires c = quad_raisable c.requires c.greatest_key-top.type_inv c.greatest_key-top.ensures
 
+pub returns-then-not-is_alone : goal.returns-then-not-is_alone
+returns-then-not-is_alone c =
+    let xs : List ℤ = c.args.quads.now in
+    let t = top_at c.requires c.greatest_key-top.type_inv c.greatest_key-top.ensures in
+    let read = quad_read c.requires c.greatest_key-top.type_inv c.greatest_key-top.ensures in
+    let first : stored c.pair_at-pair.result.x ≡ firsts xs t.pair = number_read (c.pair_at-pair.ensures.0 ∙ top_first t read) (omega (arith, quad_sizes_small xs t.pair)) in
+    let last : stored c.pair_at-pair.result.y ≡ lasts xs t.pair = number_read (c.pair_at-pair.ensures.1 ∙ top_last t read) (omega (arith, quad_sizes_small xs t.pair)) in
+    top_shared c.requires t first last (sym c.is_alone.ensures ∙ c.if-not-is_alone.true)
+
 pub returns : goal.returns
 returns c =
     let xs : List ℤ = c.args.quads.now in
@@ -54,5 +62,4 @@ returns c =
     let read = quad_read c.requires c.greatest_key-top.type_inv c.greatest_key-top.ensures in
     let first : stored c.pair_at-pair.result.x ≡ firsts xs t.pair = number_read (c.pair_at-pair.ensures.0 ∙ top_first t read) (omega (arith, quad_sizes_small xs t.pair)) in
     let last : stored c.pair_at-pair.result.y ≡ lasts xs t.pair = number_read (c.pair_at-pair.ensures.1 ∙ top_last t read) (omega (arith, quad_sizes_small xs t.pair)) in
-    let constant = number_read c.peak_at-at.ensures.constant (omega (arith, constant_of-lt (stored c.pair_at-pair.result.x))) in
-    top_peak c.requires t first last c.peak_at-at.ensures refl constant c.is_alone.ensures
+    top_peak c.requires t first last (sym c.is_alone.ensures ∙ c.if-not-is_alone.false) c.peak_at.ensures

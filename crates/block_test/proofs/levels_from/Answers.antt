@@ -11,27 +11,26 @@ use Rattle.block_test.specs.BlockLaws.{eights}
 use Rattle.block_test.proofs.levels_from.Goals as goal
 
 pub loop-k-init : goal.loop-k-init
-loop-k-init c =
-    (omega arith, omega arith, c.requires.0)
+loop-k-init c = c.requires.0
 
 pub repeats-requires : goal.repeats-requires
 repeats-requires c =
     let l = c.loop-k in
     let w = c.requires.4 in
-    let room = pow_mono {i = suc l.k} {j = c.args.m} c.loop-k-test.true in
-    rw c.size.ensures (eights l.k l.invariant.0, pow_pos l.k, omega (arith, w.size, room), record { each = w.bits })
+    let room = pow_mono {i = suc l.k} {j = c.args.m} (omega arith) in
+    rw c.size.ensures (eights l.k (omega arith), pow_pos l.k, omega (arith, w.size, room), record { each = w.bits })
 
 pub returns-then-not-repeats : goal.returns-then-not-repeats
 returns-then-not-repeats c =
     let tested : c.repeats.result ≡ repeats (bit c.args.word.now) (2 ^ c.loop-k.k) = c.repeats.ensures ∙ ap (repeats _) c.size.ensures in
-    sym (levels_stop _ _ _ c.loop-k-test.true (sym (tested) ∙ c.if-not-repeats.true))
+    sym (levels_stop _ _ _ (omega arith) (sym (tested) ∙ c.if-not-repeats.true))
 
 pub loop-k-preserved : goal.loop-k-preserved
 loop-k-preserved c =
     let tested : c.repeats.result ≡ repeats (bit c.args.word.now) (2 ^ c.loop-k.k) = c.repeats.ensures ∙ ap (repeats _) c.size.ensures in
-    let next = levels_next _ _ c.loop-k.invariant.2 (sym (tested) ∙ c.if-not-repeats.false) in
-    (omega arith, omega arith, rw add-one next)
+    let next = levels_next _ _ c.loop-k.invariant (sym (tested) ∙ c.if-not-repeats.false) in
+    rw add-one next
 
 pub returns : goal.returns
 returns c =
-    sym (ap (λ (j : ℕ). levels_test j (bit c.args.word.now)) (omega arith) ∙ c.loop-k.invariant.2)
+    sym (ap (λ (j : ℕ). levels_test j (bit c.args.word.now)) (omega arith) ∙ c.loop-k.invariant)

@@ -1,15 +1,18 @@
 -- `confidence_decoder::decode_confidences_table` meets its contract. Assumes nothing.
-use borrow.Author.Tests.{not-false, not-true}
+use Rattle.refusals.proofs.CheckLaws.{err_is}
+use Rattle.tables.specs.Slots.{given, not_given}
 use Rattle.confidence_decoder.proofs.Calls.{entry_decodes, no_entry}
 use Rattle.confidence_decoder.proofs.decode_confidences_table.Goals as goal
 
-pub returns-then-not-slot : goal.returns-then-not-slot
-returns-then-not-slot c =
+pub returns-in_err-p : goal.returns-in_err-p
+returns-in_err-p g c =
     let a = c.args in
-    no_entry a.table a.number a.values.now a.out.now a.area.now c.look-slot.ensures (not-true _ c.if-not-slot.true)
+    let q = not_given c.look.result _ _ c.in_err-p.ensures.value in
+    rw (err_is c.from_residual.ensures.1, q.1)
+    (no_entry (g.P.Profiles.table a.profiles.now) a.number a.values.now a.out.now a.area.now c.look.ensures.0 q.0)
 
 pub returns : goal.returns
-returns c =
+returns g c =
     let a = c.args in
-    entry_decodes a.table a.number a.values.now a.out.now a.area.now
-    c.look-slot.ensures (not-false _ c.if-not-slot.false) c.decode_confidences.ensures
+    let e = given c.look.result _ c.in_ok-p.p c.in_ok-p.ensures.value in
+    entry_decodes (g.P.Profiles.table a.profiles.now) a.number a.values.now a.out.now a.area.now c.look.ensures.0 e c.decode_confidences.ensures

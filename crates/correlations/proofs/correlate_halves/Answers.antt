@@ -9,7 +9,7 @@ use lib.Pow.{pow_pos}
 use Rattle.words.specs.Levels.{level_done, next_level, transformed_blocks, whole_blocks}
 use Rattle.hadamard.specs.Summable.{Summable}
 use Rattle.hadamard.specs.Transform.{sums, summable_entries}
-use Rattle.correlations.specs.Begun.{Blockwise}
+use Rattle.correlations.specs.Begun.{fours_begun}
 use Rattle.correlations.specs.HalfLaws.{blocks_of_one, half, half_end, halves_done}
 use Rattle.correlations.proofs.correlate_halves.Goals as goal
 
@@ -51,12 +51,8 @@ fours-requires c =
 
 pub levels_by_two-requires : goal.levels_by_two-requires
 levels_by_two-requires c =
-    let fours-done : let s = c.args in Blockwise 4 (suc s.k) s.a.now c.fours.new.a = let s = c.requires in
-    record { summable = s; transformed = transformed_blocks sums (summable_entries s) 2 (omega arith) c.fours.ensures } in
-    (record { exponent = _; from = _; done = fours-done }, half_end c.requires 2 c.fours.auto.a (omega arith))
+    (record { exponent = _; from = _; done = fours_begun c.requires (omega arith) c.fours.ensures }, half_end c.requires 2 c.fours.auto.a (omega arith))
 
 pub returns : goal.returns
 returns c =
-    let fours-done : let s = c.args in Blockwise 4 (suc s.k) s.a.now c.fours.new.a = let s = c.requires in
-    record { summable = s; transformed = transformed_blocks sums (summable_entries s) 2 (omega arith) c.fours.ensures } in
-    halves_done (c.levels_by_two.ensures _ _ (fours-done)) (half c.requires)
+    halves_done (c.levels_by_two.ensures _ _ (fours_begun c.requires (omega arith) c.fours.ensures)) (half c.requires)

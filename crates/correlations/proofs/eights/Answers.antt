@@ -1,38 +1,11 @@
--- `correlations::eights` meets its contract: a turn does one block. Assumes nothing.
-use native.Mathlib.Omega.{arith}
-use Rattle.words.specs.Blocks.{blocks_none, block_fits, block_lent, block_back, blocks_all}
+use Rattle.std.proofs.Common.{arith, rules}
 use Rattle.words.specs.Levels.{halved_keeps}
+use Rattle.transforms.proofs.EachBlockLaws.{block_of}
 use Rattle.hadamard.specs.Transform.{sums}
 use Rattle.correlations.proofs.eights.Goals as goal
 
-pub loop-b-init : goal.loop-b-init
-loop-b-init c =
-    blocks_none _ _ _
-
-pub overflow_add-e : goal.overflow_add-e
-overflow_add-e c =
-    omega (arith, block_fits (halved_keeps sums 3) c.requires c.loop-b.invariant (omega arith))
-
-pub slice_bounds-eight-end : goal.slice_bounds-eight-end
-slice_bounds-eight-end c =
-    omega (arith, block_fits (halved_keeps sums 3) c.requires c.loop-b.invariant (omega arith), c.loop-b.invariant.size)
-
-pub eight-requires : goal.eight-requires
-eight-requires c =
-    block_lent (halved_keeps sums 3) c.requires c.loop-b.invariant (omega arith) 3 (omega arith)
-
-pub loop-b-smaller : goal.loop-b-smaller
-loop-b-smaller c =
-    omega (arith, c.requires.some)
-
-pub loop-b-preserved : goal.loop-b-preserved
-loop-b-preserved c =
-    block_back (halved_keeps sums 3) c.requires c.loop-b.invariant (omega arith) c.eight.ensures
-
-pub shape_of-a : goal.shape_of-a
-shape_of-a c =
-    c.loop-b.invariant.size
+pub each_block-requires-clause-takes : goal.each_block-requires-clause-takes
+each_block-requires-clause-takes c = let given = block_of c.requires 3 (omega arith) in search rules
 
 pub returns : goal.returns
-returns c =
-    blocks_all c.loop-b.invariant (omega arith)
+returns c = c.each_block.ensures _ (halved_keeps sums 3) (λ p q e. search rules)

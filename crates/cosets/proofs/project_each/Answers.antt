@@ -10,8 +10,7 @@ highest_bit-h-requires c =
     (c.requires.direction.some, direction_lt c.requires.direction)
 
 pub loop-q-init : goal.loop-q-init
-loop-q-init c =
-    (omega arith, written_none _ _ _ _)
+loop-q-init c = written_none _ _ _ _
 
 pub insert_zero-p-requires : goal.insert_zero-p-requires
 insert_zero-p-requires c =
@@ -27,19 +26,12 @@ slice_copy_out-area-in-loop-q c =
     let coset : Members c.args.m c.args.b c.loop-q.q c.insert_zero-p.result = members c.requires.direction (omega arith) c.highest_bit-h.ensures.0 c.insert_zero-p.ensures.0 in
     omega (arith, (coset).partner)
 
-pub loop-q-smaller : goal.loop-q-smaller
-loop-q-smaller c =
-    omega arith
-
 pub loop-q-preserved : goal.loop-q-preserved
 loop-q-preserved c =
     let coset : Members c.args.m c.args.b c.loop-q.q c.insert_zero-p.result = members c.requires.direction (omega arith) c.highest_bit-h.ensures.0 c.insert_zero-p.ensures.0 in
-    let l = c.loop-q in (
-      omega arith,
-      written_more l.invariant.1 _ _ (omega arith) (omega arith)
-          (pair_value c.requires (coset) l.area (λ j k. l.invariant.1.below j (omega arith))),
-    )
+    let l = c.loop-q in
+    written_more l.invariant _ _ (omega arith) (omega arith) (pair_value c.requires (coset) l.area (λ j k. l.invariant.below j (omega arith)))
 
 pub returns : goal.returns
 returns c =
-    written_to c.loop-q.invariant.1 _ (omega arith)
+    written_to c.loop-q.invariant _ (omega arith)

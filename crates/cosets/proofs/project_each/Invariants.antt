@@ -1,6 +1,5 @@
 -- `cosets::project_each` meets its contract: a turn writes the sum of the bits of one coset's members. Assumes nothing.
-use Prim.Native.Nat.{suc, ◌-◌, ◌*◌, ◌^◌, ◌≤◌}
-use lib.IntN.{pos}
+use Rattle.std.specs.Prelude.{suc, ◌*◌, ◌^◌, pos}
 use Rattle.words.specs.Word.{bit}
 use Rattle.words.specs.Written.{Written}
 use Rattle.area.specs.Area.{word_of}
@@ -8,9 +7,4 @@ use Rattle.direction.specs.Direction.{project}
 use Rattle.cosets.proofs.project_each.Given as goal
 
 abbrev pub invariant-loop-q : goal.invariant-loop-q
-invariant-loop-q l =
-    (l.q ≤ 2 ^ l.m) × Written (pos 0) (4 * 2 ^ l.m) l.q (λ j. pos (bit (project l.m l.b (word_of (2 ^ suc l.m) l.initial.area)) j)) l.initial.area l.area
-
-abbrev pub decreases-loop-q : goal.decreases-loop-q
-decreases-loop-q l =
-    2 ^ l.m - l.q
+invariant-loop-q l = Written (pos 0) (4 * 2 ^ l.m) l.q (λ j. pos (bit (project l.m l.b (word_of (2 ^ suc l.m) l.initial.area)) j)) l.initial.area l.area

@@ -1,19 +1,20 @@
 -- `decoder::decode` meets its contract. Assumes nothing.
 use mathlib.Core.Path.{refl}
+use Rattle.refusals.proofs.CheckLaws.{err_is, none_refused}
 use Rattle.rule.specs.Decoding.{decode_call}
-use Rattle.decoder.proofs.Whole.{checks_passed, checks_refused, passed_decodes, passed_runs}
+use Rattle.decoder.proofs.Whole.{checks_refused, passed_decodes, passed_runs}
 use Rattle.decoder.proofs.decode.Goals as goal
+
+pub returns-in_err-call : goal.returns-in_err-call
+unfolding decode_call
+returns-in_err-call c =
+    rw (err_is c.from_residual.ensures.1) (checks_refused c.call.ensures _ _ _ _ refl c.in_err-call.was)
 
 pub run-requires : goal.run-requires
 run-requires c =
-    passed_runs _ _ _ _ _ _ _ (checks_passed c.call-checked.ensures c.in-Done.is)
+    passed_runs _ _ _ _ _ _ _ (none_refused c.call.ensures c.in_ok-call.was)
 
-pub returns-in-Refused : goal.returns-in-Refused
+pub returns : goal.returns
 unfolding decode_call
-returns-in-Refused c =
-    checks_refused c.call-checked.ensures _ _ _ _ refl c.in-Refused.is
-
-pub returns-in-Done : goal.returns-in-Done
-unfolding decode_call
-returns-in-Done c =
-    passed_decodes _ (checks_passed c.call-checked.ensures c.in-Done.is) c.run.ensures
+returns c =
+    passed_decodes _ (none_refused c.call.ensures c.in_ok-call.was) c.run.ensures

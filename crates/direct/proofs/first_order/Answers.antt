@@ -2,7 +2,7 @@
 use Prim.Native.Nat.{◌^◌, ◌-◌}
 use mathlib.Core.Path.{◌≡◌, sym, ◌∙◌}
 use native.Mathlib.Omega.{arith}
-use borrow.Author.Tests.{not-true, not-false}
+use Rattle.std.specs.Prelude.{Some, None}
 use lib.Pow.{pow_mono}
 use Rattle.order_one.specs.OrderOne.{PeakOf}
 use Rattle.direct.proofs.Answers.{as_block, quads_sought, quads_peak, peak_writes, codeword_gives, tie_gives, written_gives}
@@ -26,25 +26,25 @@ slice_bounds-find_peak-end c =
     let sizes : c.size-q.result ≡ 2 ^ (c.args.m - 2) = c.size-q.ensures in
     omega (arith, sizes, (as_block c.requires).room, c.correlate.auto)
 
-pub find_peak-peak-requires : goal.find_peak-peak-requires
-find_peak-peak-requires c =
+pub find_peak-requires : goal.find_peak-requires
+find_peak-requires c =
     let sizes : c.size-q.result ≡ 2 ^ (c.args.m - 2) = c.size-q.ensures in
     quads_sought c.requires _ _ (sizes) c.correlate.ensures
 
-pub returns-then-not-peak : goal.returns-then-not-peak
-returns-then-not-peak c =
+pub returns-in_default : goal.returns-in_default
+returns-in_default c =
     let sizes : c.size-q.result ≡ 2 ^ (c.args.m - 2) = c.size-q.ensures in
-    let peaked : PeakOf c.args.m c.args.word.now c.find_peak-peak.result = quads_peak c.requires _ _ (sizes) c.correlate.ensures c.find_peak-peak.ensures in
-    tie_gives (peaked) c.changed.ensures (not-true _ c.if-not-peak.true)
+    let peaked : PeakOf c.args.m c.args.word.now None = rw c.in_default.is at (quads_peak c.requires _ _ (sizes) c.correlate.ensures c.find_peak.ensures) in
+    tie_gives (peaked) c.refused.ensures
 
 pub write_affine-requires : goal.write_affine-requires
 write_affine-requires c =
     let sizes : c.size-q.result ≡ 2 ^ (c.args.m - 2) = c.size-q.ensures in
-    let peaked : PeakOf c.args.m c.args.word.now c.find_peak-peak.result = quads_peak c.requires _ _ (sizes) c.correlate.ensures c.find_peak-peak.ensures in
-    peak_writes c.requires (peaked) (not-false _ c.if-not-peak.false)
+    let peaked : PeakOf c.args.m c.args.word.now (Some c.in-Some.peak) = rw c.in-Some.is at (quads_peak c.requires _ _ (sizes) c.correlate.ensures c.find_peak.ensures) in
+    peak_writes c.requires (peaked)
 
 pub returns : goal.returns
 returns c =
     let sizes : c.size-q.result ≡ 2 ^ (c.args.m - 2) = c.size-q.ensures in
-    let peaked : PeakOf c.args.m c.args.word.now c.find_peak-peak.result = quads_peak c.requires _ _ (sizes) c.correlate.ensures c.find_peak-peak.ensures in
-    written_gives (peaked) (not-false _ c.if-not-peak.false) c.changed-2.ensures _ c.requires.output c.write_affine.ensures
+    let peaked : PeakOf c.args.m c.args.word.now (Some c.in-Some.peak) = rw c.in-Some.is at (quads_peak c.requires _ _ (sizes) c.correlate.ensures c.find_peak.ensures) in
+    written_gives (peaked) c.changed.ensures _ c.requires.output c.write_affine.ensures

@@ -1,14 +1,14 @@
 -- `flips::flip` meets its contract: the loop flips the places passed. Assumes nothing.
 use Prim.Native.Nat.{ℕ, ◌+◌, ◌-◌, ◌<◌}
-use mathlib.Core.Path.{◌≡◌, refl, sym, ap, ◌∙◌}
+use mathlib.Core.Path.{◌≡◌, refl, sym, ◌∙◌}
 use mathlib.Core.List.{List}
 use native.Mathlib.Omega.{arith}
 use lib.Bits.{bit_xor}
 use lib.IntN.{ℤ, pos, nat_abs}
 use mir.Syntax.{w32}
 use mir.Val.{to_z, of_z}
-use Rattle.words.specs.Sum.{total, all_below}
-use Rattle.words.specs.Written.{written_none, written_more, written_to}
+use Rattle.words.specs.Sum.{total}
+use Rattle.words.specs.Written.{written_none, written_more}
 use Rattle.area.specs.Area.{at, Bits}
 use Rattle.area.proofs.AreaLaws.{bit-word_of}
 use Rattle.area.specs.Numbers.{stored, stored-eq}
@@ -23,24 +23,6 @@ pub loop-p-init : goal.loop-p-init
 unfolding total
 loop-p-init c =
     (omega arith, written_none _ _ _ _, refl)
-
-pub overflow_cast-area : goal.overflow_cast-area
-overflow_cast-area c =
-    let votes : let l = c.loop-p in
-    stored (at l.area (c.args.n + l.p)) ≡ pos (nat_abs (at c.args.area.now (c.args.n + l.p))) = let l = c.loop-p in
-    let under : l.p < c.args.n = c.loop-p-test.true in
-    let t = c.requires.tally in
-    rw (l.invariant.1.above (c.args.n + l.p) (omega arith)) (stored-eq _ (omega (arith, t.few l.p under)) ∙ t.whole l.p under) in
-    rw (votes) (tt, record { fits = omega (arith, c.requires.tally.few c.loop-p.p c.loop-p-test.true) })
-
-pub overflow_mul-area : goal.overflow_mul-area
-overflow_mul-area c =
-    let votes : let l = c.loop-p in
-    stored (at l.area (c.args.n + l.p)) ≡ pos (nat_abs (at c.args.area.now (c.args.n + l.p))) = let l = c.loop-p in
-    let under : l.p < c.args.n = c.loop-p-test.true in
-    let t = c.requires.tally in
-    rw (l.invariant.1.above (c.args.n + l.p) (omega arith)) (stored-eq _ (omega (arith, t.few l.p under)) ∙ t.whole l.p under) in
-    rw (votes) (record { fits = omega (arith, c.requires.tally.few c.loop-p.p c.loop-p-test.true) })
 
 pub loop-p-preserved : goal.loop-p-preserved
 loop-p-preserved c =
@@ -69,10 +51,3 @@ loop-p-preserved c =
       more,
       rw (l.invariant.2, flip_is) (all_more l.p (still n c.args.abstained xs) _ refl),
     )
-
-pub returns : goal.returns
-returns c =
-    let a = c.args in
-    let l = c.loop-p in
-    let e : l.p ≡ a.n = omega (arith, c.loop-p-test.false, l.invariant.0) in
-    record { settled = l.invariant.2 ∙ ap (λ (k : ℕ). all_below k (still a.n a.abstained a.area.now)) e; flipped = written_to l.invariant.1 _ e }

@@ -23,4 +23,4 @@ bounds-noise-at-2 c =
 
 pub returns : goal.returns
 returns c =
-    place_drawn c.requires.2 c.requires.1 c.step-x.ensures c.requires.0
+    rw c.from.ensures (place_drawn c.requires.2 c.requires.1 c.step-x.ensures c.requires.0)

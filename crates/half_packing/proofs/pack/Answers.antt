@@ -1,6 +1,6 @@
 -- `half_packing::pack` meets its contract. Assumes nothing.
-use Rattle.std.specs.Prelude.{ℕ, ◌+◌, ◌<◌, ◌≡◌, refl, List, ℤ, pos, nat_abs}
-use Rattle.std.proofs.Common.{sym, ap₂, subst, ◌∙◌, arith, length-set}
+use Rattle.std.specs.Prelude.{ℕ, ◌+◌, ◌<◌, ◌≡◌, List, ℤ, pos, nat_abs}
+use Rattle.std.proofs.Common.{sym, ap₂, subst, ◌∙◌, arith}
 use Rattle.words.specs.Written.{Written, written_none, written_more, written_to}
 use Rattle.area.specs.Area.{at, Bits, IsBit}
 use Rattle.hadamard.specs.Correlation.{sign}
@@ -27,30 +27,30 @@ module _ {h i : ℕ} {xs ys : List ℤ} (b : Bits (h + h) xs) (w : Written (pos 
 
 -- ---- the needs
 pub loop-i-init : goal.loop-i-init
-loop-i-init c = (omega arith, refl, written_none _ _ _ _)
+loop-i-init c = written_none _ _ _ _
 
 pub overflow_mul-x : goal.overflow_mul-x
-overflow_mul-x c = second_fits (second_bit c.requires.2 c.loop-i.invariant.2 (omega arith))
+overflow_mul-x c = second_fits (second_bit c.requires.2 c.loop-i.invariant (omega arith))
 
 pub overflow_add-x-in-loop-i : goal.overflow_add-x-in-loop-i
 overflow_add-x-in-loop-i c =
-    coded_fits (first_bit c.requires.2 c.loop-i.invariant.2 (omega arith)) (second_bit c.requires.2 c.loop-i.invariant.2 (omega arith))
+    coded_fits (first_bit c.requires.2 c.loop-i.invariant (omega arith)) (second_bit c.requires.2 c.loop-i.invariant (omega arith))
 
 pub overflow_mul-area : goal.overflow_mul-area
 overflow_mul-area c =
-    double_fits (first_bit c.requires.2 c.loop-i.invariant.2 (omega arith)) (second_bit c.requires.2 c.loop-i.invariant.2 (omega arith))
+    double_fits (first_bit c.requires.2 c.loop-i.invariant (omega arith)) (second_bit c.requires.2 c.loop-i.invariant (omega arith))
 
 pub overflow_sub-area : goal.overflow_sub-area
 overflow_sub-area c =
-    signs_fit (first_bit c.requires.2 c.loop-i.invariant.2 (omega arith)) (second_bit c.requires.2 c.loop-i.invariant.2 (omega arith))
+    signs_fit (first_bit c.requires.2 c.loop-i.invariant (omega arith)) (second_bit c.requires.2 c.loop-i.invariant (omega arith))
 
 pub loop-i-preserved : goal.loop-i-preserved
 loop-i-preserved c =
     let b = c.requires.2 in
-    let w = c.loop-i.invariant.2 in
+    let w = c.loop-i.invariant in
     let l : c.loop-i.i < c.args.h = omega arith in
     let signs = signs_are (first_bit b w l) (second_bit b w l) ∙ same b w l in
-    (omega arith, simp length-set c.loop-i.invariant.1, written_more w _ _ (omega arith) (omega arith) signs)
+    written_more w _ _ (omega arith) (omega arith) signs
 
 pub returns : goal.returns
-returns c = written_to c.loop-i.invariant.2 c.args.h (omega arith)
+returns c = written_to c.loop-i.invariant c.args.h (omega arith)

@@ -1,7 +1,7 @@
 -- `halves::pair_sizes` meets its contract. Assumes nothing.
-use Rattle.std.specs.Prelude.{ℕ, ◌<◌, ◌≡◌, refl, List, ℤ, pos, nat_abs, ◌+ℤ◌}
-use Rattle.std.proofs.Common.{ap, ap₂, ◌∙◌, arith, length-set}
-use Rattle.words.specs.Written.{Written, written_none, written_more, written_to}
+use Rattle.std.specs.Prelude.{ℕ, ◌<◌, ◌≡◌, List, ℤ, pos, nat_abs, ◌+ℤ◌}
+use Rattle.std.proofs.Common.{ap, ap₂, ◌∙◌, arith}
+use Rattle.words.specs.Written.{Written, written_more, written_to}
 use Rattle.area.specs.Area.{at}
 use Rattle.area.specs.Numbers.{stored, sum_fits, sum_stored}
 use Rattle.halves.specs.Halves.{first_in, second_of, size_of, Packed}
@@ -27,39 +27,36 @@ module _ {h i : ℕ} {xs ys : List ℤ} (k : Packed h xs) (w : Written (pos 0) h
   second_size e f = size_read f (second e) (k.second i l)
 
 -- ---- the needs
-pub loop-i-init : goal.loop-i-init
-loop-i-init c = (omega arith, refl, written_none _ _ _ _)
-
 pub first_of-requires : goal.first_of-requires
-first_of-requires c = pair_small c.requires c.loop-i.invariant.2 (omega arith)
+first_of-requires c = pair_small c.requires c.loop-i.invariant (omega arith)
 
 pub absolute-requires : goal.absolute-requires
 absolute-requires c =
     let l : c.loop-i.i < c.args.h = omega arith in
-    number_small (first c.requires c.loop-i.invariant.2 l c.first_of.ensures) (c.requires.first _ l)
+    number_small (first c.requires c.loop-i.invariant l c.first_of.ensures) (c.requires.first _ l)
 
 pub second_of-requires : goal.second_of-requires
-second_of-requires c = pair_small c.requires c.loop-i.invariant.2 (omega arith)
+second_of-requires c = pair_small c.requires c.loop-i.invariant (omega arith)
 
 pub absolute-requires-in-loop-i : goal.absolute-requires-in-loop-i
 absolute-requires-in-loop-i c =
     let l : c.loop-i.i < c.args.h = omega arith in
-    number_small (second c.requires c.loop-i.invariant.2 l c.second_of.ensures) (c.requires.second _ l)
+    number_small (second c.requires c.loop-i.invariant l c.second_of.ensures) (c.requires.second _ l)
 
 pub overflow_add-part : goal.overflow_add-part
 overflow_add-part c =
     let l : c.loop-i.i < c.args.h = omega arith in
-    let x = first_size c.requires c.loop-i.invariant.2 l c.first_of.ensures c.absolute.ensures in
-    let y = second_size c.requires c.loop-i.invariant.2 l c.second_of.ensures c.absolute-in-loop-i.ensures in
+    let x = first_size c.requires c.loop-i.invariant l c.first_of.ensures c.absolute.ensures in
+    let y = second_size c.requires c.loop-i.invariant l c.second_of.ensures c.absolute-in-loop-i.ensures in
     sum_fits x.half y.half
 
 pub loop-i-preserved : goal.loop-i-preserved
 loop-i-preserved c =
     let l : c.loop-i.i < c.args.h = omega arith in
-    let x = first_size c.requires c.loop-i.invariant.2 l c.first_of.ensures c.absolute.ensures in
-    let y = second_size c.requires c.loop-i.invariant.2 l c.second_of.ensures c.absolute-in-loop-i.ensures in
+    let x = first_size c.requires c.loop-i.invariant l c.first_of.ensures c.absolute.ensures in
+    let y = second_size c.requires c.loop-i.invariant l c.second_of.ensures c.absolute-in-loop-i.ensures in
     let sum = sum_stored x.half y.half ∙ ap₂ ◌+ℤ◌ x.is y.is in
-    (omega arith, simp length-set c.loop-i.invariant.1, written_more c.loop-i.invariant.2 _ _ (omega arith) (omega arith) sum)
+    written_more c.loop-i.invariant _ _ (omega arith) (omega arith) sum
 
 pub returns : goal.returns
-returns c = written_to c.loop-i.invariant.2 c.args.h (omega arith)
+returns c = written_to c.loop-i.invariant c.args.h (omega arith)

@@ -1,5 +1,5 @@
 -- The sizes of the pairs, their greatest and its key lead to the peak.
-use Rattle.std.specs.Prelude.{ℕ, ◌+◌, ◌-◌, ◌%◌, ◌≤◌, ◌<◌, ◌^◌, ◌≡◌, refl, List, ℤ, pos, nat_abs, length, take, drop}
+use Rattle.std.specs.Prelude.{ℕ, ◌+◌, ◌-◌, ◌%◌, ◌≤◌, ◌<◌, ◌^◌, ◌≡◌, List, ℤ, pos, nat_abs, length, take, drop}
 use Rattle.std.proofs.Common.{sym, ap, ◌∙◌, subst, arith}
 use Rattle.std.specs.Int.Signed.{mag}
 use lib.Dec.{lt→ltb}
@@ -12,7 +12,7 @@ use Rattle.halves.specs.Halves.{first_in, second_of, size_of, Packed}
 use Rattle.halves.specs.PairNumbers.{sizes_held, sizes_small}
 use Rattle.peaks.specs.Peaks.{Sizes, keys_below}
 use Rattle.peaks.specs.Found.{held_sizes, held_searched, Searched, searched_many, searched_peak, searched_place}
-use Rattle.peaks.specs.Stored.{as_it_is, size_whole, peak_as}
+use Rattle.peaks.specs.Stored.{as_it_is, peak_as}
 use Rattle.halves.proofs.search.Goals as goal
 
 -- ---- the pairs of xs, and ys, in which their sizes are written
@@ -46,56 +46,9 @@ module _ {h : ℕ} {xs ys : List ℤ} (k : Packed h xs) (w : Written (pos 0) h h
       pair_small = subst (λ (z : ℤ). nat_abs z < 2097152) (sym pair_read) (k.small (key % 65536) below)
 
 -- ---- the needs
-pub pair_sizes-requires : goal.pair_sizes-requires
-pair_sizes-requires c = c.requires
-
-pub overflow_add-e : goal.overflow_add-e
-overflow_add-e c = (placed c.requires c.pair_sizes.ensures).end
-
-pub offset_bounds-part-h : goal.offset_bounds-part-h
-offset_bounds-part-h c = (placed c.requires c.pair_sizes.ensures).start.bytes
-
-pub slice_bounds-greatest-count : goal.slice_bounds-greatest-count
-slice_bounds-greatest-count c = (placed c.requires c.pair_sizes.ensures).ordered
-
-pub slice_bounds-greatest-start : goal.slice_bounds-greatest-start
-slice_bounds-greatest-start c = (placed c.requires c.pair_sizes.ensures).ordered
-
-pub slice_bounds-greatest-end : goal.slice_bounds-greatest-end
-slice_bounds-greatest-end c = (placed c.requires c.pair_sizes.ensures).within
-
-pub greatest-g-requires : goal.greatest-g-requires
-greatest-g-requires c = sizes_are c.requires c.pair_sizes.ensures
-
-pub offset_bounds-part-h-2 : goal.offset_bounds-part-h-2
-offset_bounds-part-h-2 c = (placed c.requires c.pair_sizes.ensures).start.bytes
-
-pub slice_bounds-keys-count : goal.slice_bounds-keys-count
-slice_bounds-keys-count c = (placed c.requires c.pair_sizes.ensures).ordered
-
-pub slice_bounds-keys-start : goal.slice_bounds-keys-start
-slice_bounds-keys-start c = (placed c.requires c.pair_sizes.ensures).ordered
-
-pub slice_bounds-keys-end : goal.slice_bounds-keys-end
-slice_bounds-keys-end c = (placed c.requires c.pair_sizes.ensures).within
-
-pub keys-key-requires : goal.keys-key-requires
-keys-key-requires c = record {
-  sizes = sizes_are c.requires c.pair_sizes.ensures;
-  g_value = size_whole c.greatest-g.ensures c.greatest-g.type_inv;
-}
-
 pub returns-then-key-gt131071 : goal.returns-then-key-gt131071
 returns-then-key-gt131071 c =
-    searched_many (told c.requires c.pair_sizes.ensures c.greatest-g.ensures c.greatest-g.type_inv c.keys-key.ensures) c.if-key-gt131071.true refl
-
-pub overflow_cast-j : goal.overflow_cast-j
-overflow_cast-j c =
-    (pair_place c.requires c.pair_sizes.ensures c.greatest-g.ensures c.greatest-g.type_inv c.keys-key.ensures c.if-key-gt131071.false).index
-
-pub offset_bounds-part-j : goal.offset_bounds-part-j
-offset_bounds-part-j c =
-    (pair_place c.requires c.pair_sizes.ensures c.greatest-g.ensures c.greatest-g.type_inv c.keys-key.ensures c.if-key-gt131071.false).bytes
+    searched_many (told c.requires c.pair_sizes.ensures c.greatest-g.ensures c.greatest-g.type_inv c.keys-key.ensures) c.if-key-gt131071.true
 
 pub slice_copy_out-z : goal.slice_copy_out-z
 slice_copy_out-z c =

@@ -1,24 +1,6 @@
 -- `halves::second_of` meets its contract. Assumes nothing.
-use native.Mathlib.Omega.{arith}
-use Rattle.peaks.specs.Stored.{lower_fits}
-use Rattle.halves.proofs.Casts.{raised_fits, raised_casts, second_small, second_is}
+use Rattle.halves.proofs.Casts.{second_is}
 use Rattle.halves.proofs.second_of.Goals as goal
-
-pub overflow_add-result : goal.overflow_add-result
-overflow_add-result c =
-    raised_fits c.args.z c.requires
-
-pub overflow_cast-result : goal.overflow_cast-result
-overflow_cast-result c =
-    raised_casts c.args.z c.requires
-
-pub overflow_cast-result-2 : goal.overflow_cast-result-2
-overflow_cast-result-2 c =
-    record { sfits = omega (arith, second_small c.args.z c.requires) }
-
-pub overflow_sub-result : goal.overflow_sub-result
-overflow_sub-result c =
-    lower_fits 1024 _ (second_small c.args.z c.requires)
 
 pub returns : goal.returns
 returns c =

@@ -1,12 +1,7 @@
 -- `keys::offs_of` meets its contract. Assumes nothing.
 use native.Mathlib.Omega.{arith}
-use lib.Bits.{and_le_r}
 use Rattle.keys.specs.Bytes.{offs_are, offs_room}
 use Rattle.keys.proofs.offs_of.Goals as goal
-
-pub overflow_sub-below : goal.overflow_sub-below
-overflow_sub-below c =
-    and_le_r c.args.f 2155905152
 
 pub overflow_add-result : goal.overflow_add-result
 overflow_add-result c =

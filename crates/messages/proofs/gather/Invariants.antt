@@ -1,5 +1,4 @@
 -- `messages::gather` meets its contract: the masks below a fill out up to the rank of a. Assumes nothing.
-use Prim.Native.Nat.{◌-◌, ◌≤◌}
 use mathlib.Core.Path.{◌≡◌}
 use lib.ListN.{length}
 use Rattle.words.specs.Word.{bit}
@@ -9,8 +8,4 @@ use Rattle.messages.proofs.gather.Given as goal
 
 abbrev pub invariant-loop-a : goal.invariant-loop-a
 invariant-loop-a l =
-    (l.a-end ≡ length l.t) × (l.a ≤ length l.t) × (l.j ≡ rank l.r l.a) × (length l.out ≡ length l.initial.out) × Written 0 0 l.j (bit (gather l.r (bit l.t) (length l.t))) l.initial.out l.out
-
-abbrev pub decreases-loop-a : goal.decreases-loop-a
-decreases-loop-a l =
-    length l.t - l.a
+    (l.j ≡ rank l.r l.a) × (length l.out ≡ length l.initial.out) × Written 0 0 l.j (bit (gather l.r (bit l.t) (length l.t))) l.initial.out l.out

@@ -1,5 +1,4 @@
 -- `messages::spread` meets its contract: the loop writes out from its front, and j is the rank of the mask. Assumes nothing.
-use Prim.Native.Nat.{◌-◌, ◌≤◌}
 use mathlib.Core.Path.{◌≡◌}
 use lib.ListN.{length}
 use Rattle.words.specs.Written.{Written}
@@ -8,8 +7,4 @@ use Rattle.messages.proofs.spread.Given as goal
 
 abbrev pub invariant-loop-a : goal.invariant-loop-a
 invariant-loop-a l =
-    (l.a-end ≡ length l.initial.out) × (l.a ≤ length l.initial.out) × (l.j ≡ rank l.r l.a) × (length l.out ≡ length l.initial.out) × Written 0 0 l.a (spread l.r l.message) l.initial.out l.out
-
-abbrev pub decreases-loop-a : goal.decreases-loop-a
-decreases-loop-a l =
-    length l.initial.out - l.a
+    (l.j ≡ rank l.r l.a) × (length l.out ≡ length l.initial.out) × Written 0 0 l.a (spread l.r l.message) l.initial.out l.out

@@ -2,7 +2,7 @@
 use Rattle.text.specs.TextLaws.{decimal-length}
 use Rattle.lines.specs.LineLaws.{header_length}
 use Rattle.notices.specs.PutLaws.{puts, puts_none}
-use native.Mathlib.Omega.{arith}
+use Rattle.std.proofs.Common.{arith, rules}
 use Rattle.notices.proofs.header_line.Goals as goal
 
 pub returns-then-out-lt16 : goal.returns-then-out-lt16
@@ -15,4 +15,4 @@ put_header-requires c =
 
 pub returns : goal.returns
 returns c =
-    puts (omega arith) c.put_header.ensures
+    puts (omega arith) (search rules)

@@ -4,7 +4,7 @@ use native.Mathlib.Nat.{lt_of_lt_of_le}
 use Rattle.text.specs.TextLaws.{decimal-length}
 use Rattle.lines.specs.LineLaws.{last_length}
 use Rattle.notices.specs.PutLaws.{puts, puts_none}
-use native.Mathlib.Omega.{arith}
+use Rattle.std.proofs.Common.{arith, rules}
 use Rattle.notices.proofs.last_line.Goals as goal
 
 pub returns-then-out-lt60 : goal.returns-then-out-lt60
@@ -17,4 +17,4 @@ put_last-requires c =
 
 pub returns : goal.returns
 returns c =
-    puts (omega arith) c.put_last.ensures
+    puts (omega arith) (search rules)

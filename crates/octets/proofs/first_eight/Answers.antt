@@ -1,7 +1,6 @@
 -- `octets::first_eight` meets its contract. Assumes nothing.
 use mathlib.Core.Path.{◌≡◌, ◌∙◌}
 use native.Mathlib.Omega.{arith}
-use lib.Bits.{and_le_r}
 use lib.IntN.{pos, nat_abs}
 use Rattle.area.proofs.AreaLaws.{bit_is, bit_lt, bit_back}
 use Rattle.area.specs.Numbers.{stored}
@@ -17,30 +16,6 @@ pub overflow_mul-a : goal.overflow_mul-a
 overflow_mul-a c =
     let constant : stored c.args.s ≡ pos (nat_abs c.args.s) = bit_back c.requires ∙ bit_is c.requires in
     rw (constant) record { fits = omega (arith, bit_lt c.requires) }
-
-pub parity-requires : goal.parity-requires
-parity-requires c =
-    omega (arith, and_le_r c.args.u 1)
-
-pub overflow_mul-a-2 : goal.overflow_mul-a-2
-overflow_mul-a-2 c =
-    record { fits = omega (arith, c.parity.ensures) }
-
-pub parity-requires-2 : goal.parity-requires-2
-parity-requires-2 c =
-    omega (arith, and_le_r c.args.u 2)
-
-pub overflow_mul-b : goal.overflow_mul-b
-overflow_mul-b c =
-    record { fits = omega (arith, c.parity-2.ensures) }
-
-pub parity-requires-3 : goal.parity-requires-3
-parity-requires-3 c =
-    omega (arith, and_le_r c.args.u 4)
-
-pub overflow_mul-b-2 : goal.overflow_mul-b-2
-overflow_mul-b-2 c =
-    record { fits = omega (arith, c.parity-3.ensures) }
 
 pub returns : goal.returns
 returns c =

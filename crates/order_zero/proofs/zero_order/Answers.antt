@@ -1,5 +1,5 @@
 -- `order_zero::zero_order` meets its contract. Assumes nothing.
-use Prim.Native.Nat.{ℕ, ◌-◌, ◌^◌, ◌≤◌}
+use Prim.Native.Nat.{ℕ, ◌^◌, ◌≤◌}
 use mathlib.Core.Path.{◌≡◌, sym, ◌∙◌, subst}
 use native.Mathlib.Omega.{arith}
 use lib.ListN.{length}
@@ -22,27 +22,27 @@ pub returns-then-k-n : goal.returns-then-k-n
 returns-then-k-n c =
     let counted : let a = c.args in
     c.count_ones-k.result ≡ sum_below (2 ^ a.m) (bit (word_of (2 ^ a.m) a.area.now)) = rw c.size-n.ensures at c.count_ones-k.ensures.0 in
-    let given = changed_tells c.changed.ensures
+    let given = changed_tells c.refused.ensures
     (zero_tie (word_of_word {m = c.args.m} c.requires.1) (counted) (c.if-k-n.true ∙ c.size-n.ensures)) in record { read = given.0; kept = given.1 }
 
 pub returns-then-k-n-2 : goal.returns-then-k-n-2
 returns-then-k-n-2 c =
-    let size_is : c.size-n.result - 0 ≡ 2 ^ c.args.m = omega (arith, c.size-n.ensures) in
-    let within : 2 ^ c.args.m ≤ c.size-n.result - 0 = omega (arith, size_is) in
-    let room : c.size-n.result - 0 ≤ length c.args.area.now = omega (arith, size_is, c.requires.1.room) in
+    let size_is = c.size-n.ensures in
+    let within : 2 ^ c.args.m ≤ c.size-n.result = omega (arith, size_is) in
+    let room : c.size-n.result ≤ length c.args.area.now = omega (arith, size_is, c.requires.1.room) in
     let counted : let a = c.args in
     c.count_ones-k.result ≡ sum_below (2 ^ a.m) (bit (word_of (2 ^ a.m) a.area.now)) = rw c.size-n.ensures at c.count_ones-k.ensures.0 in
     let long = lent_size c.args.area.now (within) (room) in
-    let given = changed_tells c.changed-then-k-n-2.ensures
+    let given = changed_tells c.changed.ensures
     (read_back c.args.area.now (within) (room) _ (c.fill.auto.area ∙ long)
     (zero_zeros (word_of_word {m = c.args.m} c.requires.1) (counted)
     (long ∙ size_is) (omega arith) c.fill.ensures)) in record { read = given.0; kept = given.1 }
 
 pub returns : goal.returns
 returns c =
-    let size_is : c.size-n.result - 0 ≡ 2 ^ c.args.m = omega (arith, c.size-n.ensures) in
-    let within : 2 ^ c.args.m ≤ c.size-n.result - 0 = omega (arith, size_is) in
-    let room : c.size-n.result - 0 ≤ length c.args.area.now = omega (arith, size_is, c.requires.1.room) in
+    let size_is = c.size-n.ensures in
+    let within : 2 ^ c.args.m ≤ c.size-n.result = omega (arith, size_is) in
+    let room : c.size-n.result ≤ length c.args.area.now = omega (arith, size_is, c.requires.1.room) in
     let counted : let a = c.args in
     c.count_ones-k.result ≡ sum_below (2 ^ a.m) (bit (word_of (2 ^ a.m) a.area.now)) = rw c.size-n.ensures at c.count_ones-k.ensures.0 in
     let long = lent_size c.args.area.now (within) (room) in

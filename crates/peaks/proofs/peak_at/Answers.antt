@@ -1,76 +1,69 @@
 -- The pair's numbers as the code reads them: its tests of their signs, and for 0.
-use mathlib.Core.Path.{◌≡◌, refl, sym, ap, ◌∙◌}
-use mathlib.Core.Bool.{true, false, not, cond}
-use lib.IntN.{ℤ, pos}
-use lib.Signed.{lt_z}
-use mir.Syntax.{w32}
-use mir.Val.{SFits, to_z}
-use mir.Facts.{to_z-of_z}
-use borrow.Author.Tests.{eq-eqb, ne_eqb}
+use Rattle.std.specs.Prelude.{◌≡◌, ◌≢◌, refl, Bool, true, false, ◌||◌, eqb, ℤ, pos, nat_abs}
+use Rattle.std.proofs.Common.{sym, ap, ◌∙◌, SFits, of_z, to_z-of_z, eq-eqb, ne_eqb}
+use Rattle.std.proofs.lemmas.Bool.{false≢true}
+use Rattle.std.specs.Int.Signed.{lt_z}
+use Rattle.std.specs.Int.{w32}
+use mir.Val.{bool_byte}
 use Rattle.area.specs.Numbers.{stored}
 use Rattle.hadamard.specs.Correlation.{constant_of}
 use Rattle.hadamard.specs.CorrelationLaws.{constant_of_negative, constant_of_other}
-use Rattle.peaks.specs.Peaks.{alike}
-use Rattle.peaks.specs.Stored.{word_zero, zero_read, zero_word}
-use Rattle.peaks.proofs.Words.{word_of_pos}
+use Rattle.peaks.specs.Stored.{as_it_is, zero_read}
 use Rattle.peaks.proofs.peak_at.Goals as goal
-use Rattle.peaks.proofs.peak_at.Goals.{then-x-lt0, else-x-lt0, then-y-lt0, else-y-lt0, then-constant-other, else-constant-other}
 
--- ---- one number
-module _ {x : ℤ} (f : SFits w32 x) where
-  read_negative : lt_z (stored x) (pos 0) ≡ true → constant_of x ≡ 1
-  read_negative e = constant_of_negative x (rw (to_z-of_z f) at e)
+-- ---- the sign of one number, which the code has as r
+module _ {x r : ℤ} (f : SFits w32 x) (e : r ≡ pos (bool_byte (lt_z (stored x) (pos 0)))) where
+  sign_test : (t : Bool) → lt_z (stored x) (pos 0) ≡ t → bool_byte t ≡ constant_of x
+  sign_test true q = sym (constant_of_negative x (rw (to_z-of_z f) at q))
+  sign_test false q = sym (constant_of_other x (rw (to_z-of_z f) at q))
 
-  read_not_negative : lt_z (stored x) (pos 0) ≡ false → constant_of x ≡ 0
-  read_not_negative e = constant_of_other x (rw (to_z-of_z f) at e)
+  sign_read : r ≡ pos (constant_of x)
+  sign_read = e ∙ ap pos (sign_test (lt_z (stored x) (pos 0)) refl)
+
+  sign_word : of_z w32 r ≡ constant_of x
+  sign_word = ap (of_z w32) sign_read
+
+both_false : (a b : Bool) → (a || b) ≡ false → (a ≡ false) × (b ≡ false)
+both_false true b e = absurd (false≢true (sym e))
+both_false false b e = (refl, e)
+
+-- neither is 0
+module _ {x y : ℤ} (f : SFits w32 x) (g : SFits w32 y) (e : (eqb (of_z w32 x) 0 || eqb (of_z w32 y) 0) ≡ false) where
+  first_some : nat_abs x ≢ 0
+  first_some z = false≢true (sym (both_false _ _ e).0 ∙ zero_read f ∙ eq-eqb (nat_abs x) 0 z)
+
+  second_some : nat_abs y ≢ 0
+  second_some z = false≢true (sym (both_false _ _ e).1 ∙ zero_read g ∙ eq-eqb (nat_abs y) 0 z)
 
 -- ---- the needs
-pub returns-then-x-eq0 : goal.returns-then-x-eq0
-returns-then-x-eq0 c =
-    let constant-is : to_z w32 c.if-x-lt0.constant-bits ≡ pos (constant_of c.args.x) = elim c.if-x-lt0.branch [
-      | then-x-lt0 w ↦ w.constant-is ∙ ap pos (sym (read_negative c.ranges.x w.if-x-lt0.true))
-      | else-x-lt0 w ↦ w.constant-is ∙ ap pos (sym (read_not_negative c.ranges.x w.if-x-lt0.false))
-    ] in
-    let other-is : to_z w32 c.if-y-lt0.other-bits ≡ pos (constant_of c.args.y) = elim c.if-y-lt0.branch [
-      | then-y-lt0 w ↦ w.other-is ∙ ap pos (sym (read_negative c.ranges.y w.if-y-lt0.true))
-      | else-y-lt0 w ↦ w.other-is ∙ ap pos (sym (read_not_negative c.ranges.y w.if-y-lt0.false))
-    ] in
-    let a = c.args in
-    let x-bits = word_of_pos _ constant-is in
-    let y-bits = word_of_pos _ other-is in
-    let mask_is : c.if-constant-other.mask ≡ cond (alike a.x a.y) a.sum a.difference = elim c.if-constant-other.branch [
-      | then-constant-other w ↦ rw (eq-eqb (constant_of a.x) (constant_of a.y) (sym x-bits ∙ w.if-constant-other.true ∙ y-bits)) w.mask-is
-      | else-constant-other w ↦ rw (ne_eqb (constant_of a.x) (constant_of a.y) (λ e. w.if-constant-other.false (x-bits ∙ e ∙ sym y-bits))) w.mask-is
-    ] in
+pub returns-then-tied : goal.returns-then-tied
+returns-then-tied c = record {
+  alone = λ nx ny. rw (zero_read c.ranges.x ∙ ne_eqb (nat_abs c.args.x) 0 nx, zero_read c.ranges.y ∙ ne_eqb (nat_abs c.args.y) 0 ny) at c.if-tied.true;
+  first = λ e. refl;
+  second = λ e. refl;
+  mask = tt;
+  constant = tt;
+}
+
+pub returns-then-constant-other : goal.returns-then-constant-other
+returns-then-constant-other c =
+    let alike = sym (sign_word c.ranges.x c.from-constant.ensures) ∙ c.if-constant-other.true ∙ sign_word c.ranges.y c.from-other.ensures in
     record {
-      alone = λ nx ny. absurd (nx (zero_word c.ranges.x c.if-x-eq0.true));
-      first = λ e. refl;
-      second = λ e. refl;
-      mask = mask_is;
-      constant = constant-is;
+      alone = λ nx ny. refl;
+      first = λ e. absurd (first_some c.ranges.x c.ranges.y c.if-tied.false e);
+      second = λ e. absurd (second_some c.ranges.x c.ranges.y c.if-tied.false e);
+      mask = rw (eq-eqb (constant_of c.args.x) (constant_of c.args.y) alike) refl;
+      constant = as_it_is {z = c.from-constant.result} c.from-constant.type_inv ∙ sign_read c.ranges.x c.from-constant.ensures;
     }
 
-pub returns-else-x-eq0 : goal.returns-else-x-eq0
-returns-else-x-eq0 c =
-    let constant-is : to_z w32 c.if-x-lt0.constant-bits ≡ pos (constant_of c.args.x) = elim c.if-x-lt0.branch [
-      | then-x-lt0 w ↦ w.constant-is ∙ ap pos (sym (read_negative c.ranges.x w.if-x-lt0.true))
-      | else-x-lt0 w ↦ w.constant-is ∙ ap pos (sym (read_not_negative c.ranges.x w.if-x-lt0.false))
-    ] in
-    let other-is : to_z w32 c.if-y-lt0.other-bits ≡ pos (constant_of c.args.y) = elim c.if-y-lt0.branch [
-      | then-y-lt0 w ↦ w.other-is ∙ ap pos (sym (read_negative c.ranges.y w.if-y-lt0.true))
-      | else-y-lt0 w ↦ w.other-is ∙ ap pos (sym (read_not_negative c.ranges.y w.if-y-lt0.false))
-    ] in
-    let a = c.args in
-    let x-bits = word_of_pos _ constant-is in
-    let y-bits = word_of_pos _ other-is in
-    let mask_is : c.if-constant-other.mask ≡ cond (alike a.x a.y) a.sum a.difference = elim c.if-constant-other.branch [
-      | then-constant-other w ↦ rw (eq-eqb (constant_of a.x) (constant_of a.y) (sym x-bits ∙ w.if-constant-other.true ∙ y-bits)) w.mask-is
-      | else-constant-other w ↦ rw (ne_eqb (constant_of a.x) (constant_of a.y) (λ e. w.if-constant-other.false (x-bits ∙ e ∙ sym y-bits))) w.mask-is
-    ] in
+pub returns-else-constant-other : goal.returns-else-constant-other
+returns-else-constant-other c =
+    let unlike : constant_of c.args.x ≢ constant_of c.args.y = λ e.
+    c.if-constant-other.false (sign_word c.ranges.x c.from-constant.ensures ∙ e ∙ sym (sign_word c.ranges.y c.from-other.ensures)) in
     record {
-      alone = λ nx ny. ap not (zero_read c.ranges.y ∙ ne_eqb _ 0 ny);
-      first = λ e. absurd (c.if-x-eq0.false (word_zero c.args.x e));
-      second = λ e. ap not (zero_read c.ranges.y ∙ eq-eqb _ 0 e);
-      mask = mask_is;
-      constant = constant-is;
+      alone = λ nx ny. refl;
+      first = λ e. absurd (first_some c.ranges.x c.ranges.y c.if-tied.false e);
+      second = λ e. absurd (second_some c.ranges.x c.ranges.y c.if-tied.false e);
+      mask = rw (ne_eqb (constant_of c.args.x) (constant_of c.args.y) unlike) refl;
+      constant = as_it_is {z = c.from-constant.result} c.from-constant.type_inv ∙ sign_read c.ranges.x c.from-constant.ensures;
     }

@@ -1,15 +1,8 @@
 -- `quarter_packing::pack` meets its contract: a turn writes four quads. Assumes nothing.
-use Prim.Native.Nat.{◌-◌, ◌*◌, ◌%◌, ◌≤◌}
-use mathlib.Core.Path.{◌≡◌}
-use lib.IntN.{pos}
+use Rattle.std.specs.Prelude.{◌*◌, pos}
 use Rattle.words.specs.Written.{Written}
 use Rattle.quarter_packing.specs.QuarterSigns.{quad_signs}
 use Rattle.quarter_packing.proofs.pack.Given as goal
 
-abbrev pub invariant-loop-i : goal.invariant-loop-i
-invariant-loop-i l =
-    (l.i ≤ l.q) × (l.i % 4 ≡ 0) × Written (pos 0) (4 * l.q) l.i (quad_signs l.q l.initial.area) l.initial.area l.area
-
-abbrev pub decreases-loop-i : goal.decreases-loop-i
-decreases-loop-i l =
-    l.q - l.i
+abbrev pub invariant-loop-k : goal.invariant-loop-k
+invariant-loop-k l = Written (pos 0) (4 * l.q) (4 * l.k) (quad_signs l.q l.initial.area) l.initial.area l.area

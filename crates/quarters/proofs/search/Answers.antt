@@ -1,5 +1,5 @@
 -- The sizes of the quads' pairs, their greatest and its key lead to the peak. Assumes nothing.
-use Rattle.std.specs.Prelude.{ℕ, ◌+◌, ◌-◌, ◌%◌, ◌^◌, ◌≤◌, ◌<◌, ◌≡◌, refl, List, ℤ, pos, nat_abs, length, take, drop}
+use Rattle.std.specs.Prelude.{ℕ, ◌+◌, ◌-◌, ◌%◌, ◌^◌, ◌≤◌, ◌<◌, ◌≡◌, List, ℤ, pos, nat_abs, length, take, drop}
 use Rattle.std.proofs.Common.{◌∙◌, arith, Fits}
 use Rattle.std.specs.Int.{w64}
 use Rattle.std.specs.Int.Signed.{mag}
@@ -94,7 +94,7 @@ pub keys-key-requires : goal.keys-key-requires
 keys-key-requires c = record { sizes = sizes_are c.requires c.sizes.ensures; g_value = size_whole c.greatest-g.ensures c.greatest-g.type_inv }
 
 pub returns-then-key-gt131071 : goal.returns-then-key-gt131071
-returns-then-key-gt131071 c = searched_many (told c.requires c.sizes.ensures c.greatest-g.ensures c.greatest-g.type_inv c.keys-key.ensures) c.if-key-gt131071.true refl
+returns-then-key-gt131071 c = searched_many (told c.requires c.sizes.ensures c.greatest-g.ensures c.greatest-g.type_inv c.keys-key.ensures) c.if-key-gt131071.true
 
 pub overflow_cast-j : goal.overflow_cast-j
 overflow_cast-j c = key_fits c.keys-key.result

@@ -1,5 +1,5 @@
 -- `street_report::step_line` meets its contract: the line fits. Assumes nothing.
-use native.Mathlib.Omega.{arith}
+use Rattle.std.proofs.Common.{arith, rules}
 use Rattle.notices.specs.PutLaws.{puts, puts_none}
 use Rattle.street_report.proofs.step_line.Goals as goal
 
@@ -9,4 +9,4 @@ returns-then-out-lt54 c =
 
 pub returns : goal.returns
 returns c =
-    puts (omega arith) c.put_step.ensures
+    puts (omega arith) (search rules)

@@ -1,5 +1,5 @@
 -- `street_report::summary_line` meets its contract: the summary fits. Assumes nothing.
-use native.Mathlib.Omega.{arith}
+use Rattle.std.proofs.Common.{arith, rules}
 use Rattle.notices.specs.PutLaws.{puts, puts_none}
 use Rattle.street_report.proofs.summary_line.Goals as goal
 
@@ -9,4 +9,4 @@ returns-then-out-lt145 c =
 
 pub returns : goal.returns
 returns c =
-    puts (omega arith) c.put_summary.ensures
+    puts (omega arith) (search rules)

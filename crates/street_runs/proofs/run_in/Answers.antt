@@ -6,9 +6,9 @@ use Rattle.street_runs.specs.Progress.{unsent}
 use Rattle.street_runs.specs.RunLaws.{runs_done, runs_refused}
 use Rattle.street_runs.proofs.run_in.Goals as goal
 
-pub returns-in-Refused : goal.returns-in-Refused
-returns-in-Refused c =
-    runs_refused _ _ _ _ _ (subst (Checked _ []) c.in-Refused.is c.check_run-checked.ensures) (c.none_sent.ensures ∙ ap (unsent _) c.begin.ensures)
+pub returns-in-Err : goal.returns-in-Err
+returns-in-Err c =
+    runs_refused _ _ _ _ _ (subst (Checked _ []) c.in-Err.is c.check_run-checked.ensures) (c.none_sent.ensures ∙ ap (unsent _) c.begin.ensures)
 
 pub run_steps-requires : goal.run_steps-requires
 run_steps-requires c =

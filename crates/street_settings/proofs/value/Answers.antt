@@ -1,39 +1,34 @@
 -- `street_settings::value` meets its contract: v is the number of the digits passed. Assumes nothing.
-use Prim.Native.Nat.{ℕ, ◌+◌, ◌-◌, ◌*◌}
-use mathlib.Core.Path.{◌≡◌, refl, sym, ap, ◌∙◌}
-use lib.ListN.{length}
-use Rattle.words.specs.Word.{bit}
-use native.Mathlib.Omega.{arith}
-use Rattle.street_settings.specs.Settings.{value_of}
-use Rattle.street_settings.specs.SettingLaws.{kept_great, kept_small, digit, value_grows, value_more, value_none}
+use Rattle.std.proofs.Common.{◌+◌, ◌≡◌, ap, ◌∙◌, sym, arith, length}
+use Rattle.street_settings.specs.Settings.{kept32, value_of}
+use Rattle.street_settings.specs.SettingLaws.{digit, kept_great, kept_small, value_grows, value_more, value_none}
 use Rattle.street_settings.proofs.value.Goals as goal
 
-pub loop-p-init : goal.loop-p-init
-loop-p-init c =
-    (refl, omega arith, value_none _, omega arith)
+pub loop-b-init : goal.loop-b-init
+loop-b-init c = record { value = value_none _; fits = omega arith }
 
-pub overflow_sub-v : goal.overflow_sub-v
-overflow_sub-v c =
-    (digit c.args.s.now c.requires c.loop-p.p (omega arith)).0
-
-pub overflow_cast-v : goal.overflow_cast-v
-overflow_cast-v c =
-    let h = digit c.args.s.now c.requires c.loop-p.p (omega arith) in omega arith
-
-pub overflow_add-v : goal.overflow_add-v
-overflow_add-v c =
-    let h = digit c.args.s.now c.requires c.loop-p.p (omega arith) in omega arith
-
-pub returns-then-v-gt4294967295 : goal.returns-then-v-gt4294967295
-returns-then-v-gt4294967295 c =
+pub returns-in_err-checked_mul : goal.returns-in_err-checked_mul
+returns-in_err-checked_mul c =
     let s = c.args.s.now in
-    let p = c.loop-p.p in
-    kept_great _ (omega (arith, value_grows s (p + 1) (length s) (omega arith), value_more s p))
+    let k = c.loop-b.b-index in
+    c.from_residual.ensures ∙ kept_great _ (omega (arith, c.in_err-checked_mul.ensures, c.loop-b.invariant.value, value_grows s (k + 1) (length s) (omega arith), value_more s k))
 
-pub loop-p-preserved : goal.loop-p-preserved
-loop-p-preserved c =
-    (refl, omega arith, ap (λ (v : ℕ). 10 * v + (bit c.args.s.now c.loop-p.p - 48)) c.loop-p.invariant.2 ∙ sym (value_more _ _), omega arith)
+pub overflow_sub-b : goal.overflow_sub-b
+overflow_sub-b c = (digit c.args.s.now c.requires c.loop-b.b-index (omega arith)).0
+
+pub returns-in_err-v : goal.returns-in_err-v
+returns-in_err-v c =
+    let s = c.args.s.now in
+    let k = c.loop-b.b-index in
+    c.from_residual-in_err-v.ensures ∙ kept_great _ (omega (arith, c.in_err-v.ensures, c.in_ok-checked_mul.ensures, c.from.ensures, c.loop-b.invariant.value, value_grows s (k + 1) (length s) (omega arith), value_more s k))
+
+pub loop-b-preserved : goal.loop-b-preserved
+loop-b-preserved c = record {
+  value = omega (arith, c.in_ok-v.ensures, c.in_ok-checked_mul.ensures, c.from.ensures, c.loop-b.invariant.value, value_more c.args.s.now c.loop-b.b-index);
+  fits = omega (arith, c.in_ok-v.ensures);
+}
 
 pub returns : goal.returns
 returns c =
-    let e : c.loop-p.p ≡ length c.args.s.now = omega arith in c.loop-p.invariant.2 ∙ ap (value_of c.args.s.now) e ∙ sym (kept_small _ (omega (arith, c.loop-p.invariant.2, ap (value_of c.args.s.now) e)))
+    let e : c.loop-b.v ≡ value_of c.args.s.now (length c.args.s.now) = c.loop-b.invariant.value ∙ ap (value_of c.args.s.now) (omega arith) in
+    sym (kept_small _ c.loop-b.invariant.fits) ∙ ap kept32 e

@@ -37,4 +37,4 @@ returns-then-count-gt32 c =
 
 pub returns : goal.returns
 returns c =
-    rw c.wide-count.ensures.0 (long _ (omega arith) (omega arith) (omega arith) (omega arith) (omega arith) (omega arith) (omega arith) (omega arith))
+    rw c.from-count.ensures (long _ (omega arith) (omega arith) (omega arith) (omega arith) (omega arith) (omega arith) (omega arith) (omega arith))

@@ -4,7 +4,7 @@ use mathlib.Core.Bool.{true}
 use native.Mathlib.Omega.{arith}
 use Rattle.tables.specs.declared.Table.{Table}
 use Rattle.tables.specs.Tables.{in_limits}
-use Rattle.refusals.specs.declared.Answer.TheVariants.{Done}
+use Rattle.std.specs.Prelude.{Ok}
 use Rattle.table_files.specs.File.{file_test}
 use Rattle.table_files.specs.Cases.{few, is_table, loading_starts, loading_more, loading_ends, not_table, outside, whole}
 use Rattle.table_files.proofs.load.Goals as goal
@@ -44,4 +44,4 @@ loop-i-preserved c =
 pub returns : goal.returns
 returns c =
     let l = c.loop-i.invariant in
-    ap (λ (t : Table). record { answer = Done; table = t }) (loading_ends l (omega arith)) ∙ whole _ _ l.ok (λ q h. l.passed q (omega (arith, l.counted)))
+    ap (λ (t : Table). record { answer = (Ok tt); table = t }) (loading_ends l (omega arith)) ∙ whole _ _ l.ok (λ q h. l.passed q (omega (arith, l.counted)))

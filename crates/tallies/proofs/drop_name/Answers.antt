@@ -1,13 +1,13 @@
 -- `tallies::drop_name` meets its contract. Assumes nothing.
-use mathlib.Core.Path.{◌∙◌}
-use native.Mathlib.Omega.{arith}
-use Rattle.tallies.specs.StoreLaws.{not_dropped, drops}
+use Rattle.std.proofs.Common.{arith, refl, sym, ◌∙◌}
+use Rattle.tallies.specs.StoreLaws.{drops, found_none, found_some, held_at, not_dropped}
 use Rattle.tallies.proofs.drop_name.Goals as goal
 
-pub returns-then-at-ge16 : goal.returns-then-at-ge16
-returns-then-at-ge16 c =
-    c.refused.ensures ∙ not_dropped _ _ _ c.find-at.ensures (omega arith)
+pub returns-in-Some : goal.returns-in-Some
+returns-in-Some c =
+    let f = found_some _ (sym (held_at c.args.store (omega arith) c.args.name) ∙ sym c.find.ensures ∙ c.in-Some.is) in
+    c.done.ensures ∙ rw c.put.ensures (drops c.args.store c.args.name c.args.tally f.0 f.1)
 
-pub returns : goal.returns
-returns c =
-    c.done.ensures ∙ rw (c.put.ensures, c.free_place.ensures) (drops _ _ _ c.find-at.ensures (omega arith))
+pub returns-in-None : goal.returns-in-None
+returns-in-None c =
+    c.refused.ensures ∙ not_dropped c.args.store c.args.name c.args.tally refl (found_none _ (sym (held_at c.args.store (omega arith) c.args.name) ∙ sym c.find.ensures ∙ c.in-None.is))

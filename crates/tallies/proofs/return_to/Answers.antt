@@ -1,13 +1,10 @@
 -- `tallies::return_to` meets its contract. Assumes nothing.
-use mathlib.Core.Path.{◌∙◌}
-use native.Mathlib.Omega.{arith}
-use Rattle.tallies.specs.StoreLaws.{not_returned, returns_held}
+use Rattle.std.proofs.Common.{sym, ◌∙◌}
+use Rattle.tallies.specs.StoreLaws.{returns_none, returns_some}
 use Rattle.tallies.proofs.return_to.Goals as goal
 
-pub returns-then-at-ge16 : goal.returns-then-at-ge16
-returns-then-at-ge16 c =
-    c.refused.ensures ∙ not_returned _ _ _ c.find-at.ensures (omega arith)
+pub returns-in-Some : goal.returns-in-Some
+returns-in-Some c = c.done.ensures ∙ returns_some c.args.store c.args.name c.args.tally (sym c.held.ensures ∙ c.in-Some.is)
 
-pub returns : goal.returns
-returns c =
-    c.done.ensures ∙ returns_held _ _ _ c.find-at.ensures (omega arith)
+pub returns-in-None : goal.returns-in-None
+returns-in-None c = c.refused.ensures ∙ returns_none c.args.store c.args.name c.args.tally (sym c.held.ensures ∙ c.in-None.is)

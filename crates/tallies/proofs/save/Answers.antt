@@ -1,13 +1,12 @@
 -- `tallies::save` meets its contract. Assumes nothing.
-use mathlib.Core.Path.{◌∙◌}
-use native.Mathlib.Omega.{arith}
-use Rattle.tallies.specs.StoreLaws.{full, saves}
+use Rattle.std.proofs.Common.{refl, sym, ◌∙◌}
+use Rattle.tallies.specs.StoreLaws.{found_none, found_some, full, saves}
 use Rattle.tallies.proofs.save.Goals as goal
 
-pub returns-then-at-ge16 : goal.returns-then-at-ge16
-returns-then-at-ge16 c =
-    c.refused.ensures ∙ full _ _ _ c.room-at.ensures (omega arith)
+pub returns-in-Some : goal.returns-in-Some
+returns-in-Some c =
+    let f = found_some _ (sym c.room.ensures ∙ c.in-Some.is) in
+    c.done.ensures ∙ rw c.put.ensures (saves c.args.store c.args.name c.args.tally f.0 f.1)
 
-pub returns : goal.returns
-returns c =
-    c.done.ensures ∙ rw c.put.ensures (saves _ _ _ c.room-at.ensures (omega arith))
+pub returns-in-None : goal.returns-in-None
+returns-in-None c = c.refused.ensures ∙ full c.args.store c.args.name c.args.tally refl (found_none _ (sym c.room.ensures ∙ c.in-None.is))

@@ -19,7 +19,7 @@ byte_bits s k e q l =
 
 pub loop-k-init : goal.loop-k-init
 loop-k-init c =
-    (refl, omega arith, refl, written_none 0 0 _ _)
+    written_none 0 0 _ _
 
 pub loop-k-preserved : goal.loop-k-preserved
 loop-k-preserved c =
@@ -28,9 +28,9 @@ loop-k-preserved c =
     let bits = c.unpack_byte.new.bits in
     let e = c.unpack_byte.ensures in
     let size : length bits ≡ 8 = ap length e ∙ length-tabulate 8 _ in
-    let w = written_part l.invariant.3 (8 * l.k) (8 * l.k + 8 - 8 * l.k) bits (omega arith) (omega arith) (omega arith) (λ q h. byte_bits s l.k e q (omega arith)) in
-    (refl, omega arith, w.long, written_to w (8 * (l.k + 1)) (omega arith))
+    let w = written_part l.invariant (8 * l.k) (8 * l.k + 8 - 8 * l.k) bits (omega arith) (omega arith) (omega arith) (λ q h. byte_bits s l.k e q (omega arith)) in
+    written_to w (8 * (l.k + 1)) (omega arith)
 
 pub returns : goal.returns
 returns c =
-    written_all (written_to c.loop-k.invariant.3 (length c.args.word.now) (omega arith)) refl
+    written_all (written_to c.loop-k.invariant (length c.args.word.now) (omega arith)) refl

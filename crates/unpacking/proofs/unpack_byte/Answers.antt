@@ -6,13 +6,12 @@ use Rattle.unpacking.proofs.unpack_byte.Goals as goal
 
 pub loop-i-init : goal.loop-i-init
 loop-i-init c =
-    (omega arith, omega arith, written_none 0 0 _ _)
+    written_none 0 0 _ _
 
 pub loop-i-preserved : goal.loop-i-preserved
 loop-i-preserved c =
-    let w = written_more c.loop-i.invariant.2 c.loop-i.i _ (omega arith) (omega arith) refl in
-    (omega arith, omega (arith, w.long), w)
+    written_more c.loop-i.invariant c.loop-i.i _ (omega arith) (omega arith) refl
 
 pub returns : goal.returns
 returns c =
-    written_all (written_to c.loop-i.invariant.2 8 (omega arith)) (omega arith)
+    written_all (written_to c.loop-i.invariant 8 (omega arith)) (omega arith)

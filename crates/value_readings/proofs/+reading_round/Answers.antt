@@ -6,31 +6,31 @@ use Rattle.value_readings.proofs.+reading_round.Goals as goal
 
 -- ---- `reading`
 
-pub reading-loop-k-init : goal.reading-loop-k-init
-reading-loop-k-init t c = turn_first c.args.m c.args.r c.args.rounds c.args.left c.args.area.now c.requires.le_r c.requires.ready
+pub reading-loop-init : goal.reading-loop-init
+reading-loop-init t c = turn_first c.args.m c.args.r c.args.rounds c.args.left c.args.area.now c.requires.le_r c.requires.ready
 
 pub reading-overflow_sub-left : goal.reading-overflow_sub-left
-reading-overflow_sub-left t c = c.loop-k.invariant.few
+reading-overflow_sub-left t c = c.loop.invariant.few
 
 pub reading-round-requires : goal.reading-round-requires
 reading-round-requires t c =
     let a = c.args in
-    (omega (arith, c.requires.le_r, c.decreases), turn_ready a.m a.r a.rounds a.left a.area.now c.loop-k.invariant)
+    (omega (arith, c.requires.le_r, c.decreases), turn_ready a.m a.r a.rounds a.left a.area.now c.loop.invariant)
 
-pub reading-returns-in-Exhausted : goal.reading-returns-in-Exhausted
-reading-returns-in-Exhausted t c =
+pub reading-returns-in_default : goal.reading-returns-in_default
+reading-returns-in_default t c =
     let a = c.args in
-    turn_exhausted a.m a.r a.rounds a.left a.area.now c.loop-k.invariant c.loop-k-test.true c.round.ensures c.in-Exhausted.is c.unnamed.ensures
+    turn_exhausted a.m a.r a.rounds a.left a.area.now c.loop.invariant c.loop-test.true c.round.ensures c.in_default.is c.exhausted.ensures
 
-pub reading-loop-k-preserved : goal.reading-loop-k-preserved
-reading-loop-k-preserved t c =
+pub reading-loop-preserved : goal.reading-loop-preserved
+reading-loop-preserved t c =
     let a = c.args in
-    turn_more a.m a.r a.rounds a.left a.area.now c.loop-k.invariant c.loop-k-test.true c.round.ensures _ _ c.in-Done.is
+    turn_more a.m a.r a.rounds a.left a.area.now c.loop.invariant c.loop-test.true c.round.ensures _ c.in-Some.is
 
 pub reading-returns : goal.reading-returns
 reading-returns t c =
     let a = c.args in
-    turn_last a.m a.r a.rounds a.left a.area.now c.loop-k.invariant c.loop-k-test.false c.finish.ensures.read c.finish.ensures.place
+    turn_last a.m a.r a.rounds a.left a.area.now c.loop.invariant (omega arith) c.finish.ensures.read c.finish.ensures.place
 
 -- ---- `round`
 
@@ -61,18 +61,18 @@ round-hear_answer-requires t c =
     let k = came_asks (came_of c.args.rounds c.requires.ready c.requires.le_r c.size-n.ensures c.clear.ensures c.loop-i.invariant c.loop-i-test.true c.project.ensures c.reading-told.auto.area c.reading-told.ensures) in
     record { projects = k.0; sums = k.1.0; voter = k.1.1 }
 
-pub round-returns-in-Exhausted : goal.round-returns-in-Exhausted
-round-returns-in-Exhausted t c =
-    heard_over (came_of c.args.rounds c.requires.ready c.requires.le_r c.size-n.ensures c.clear.ensures c.loop-i.invariant c.loop-i-test.true c.project.ensures c.reading-told.auto.area c.reading-told.ensures) c.hear_answer.ensures.counted c.hear_answer.ensures.heard c.in-Exhausted.is
+pub round-returns-in_err-count : goal.round-returns-in_err-count
+round-returns-in_err-count t c =
+    rw c.from_residual.ensures (heard_over (came_of c.args.rounds c.requires.ready c.requires.le_r c.size-n.ensures c.clear.ensures c.loop-i.invariant c.loop-i-test.true c.project.ensures c.reading-told.auto.area c.reading-told.ensures) c.hear_answer.ensures.counted c.hear_answer.ensures.heard c.in_err-count.was)
 
 pub round-overflow_add-abstained : goal.round-overflow_add-abstained
 round-overflow_add-abstained t c =
-    let h = heard_absent (came_of c.args.rounds c.requires.ready c.requires.le_r c.size-n.ensures c.clear.ensures c.loop-i.invariant c.loop-i-test.true c.project.ensures c.reading-told.auto.area c.reading-told.ensures) c.hear_answer.ensures.counted c.hear_answer.ensures.heard _ _ c.in-Done.is in
+    let h = heard_absent (came_of c.args.rounds c.requires.ready c.requires.le_r c.size-n.ensures c.clear.ensures c.loop-i.invariant c.loop-i-test.true c.project.ensures c.reading-told.auto.area c.reading-told.ensures) c.hear_answer.ensures.counted c.hear_answer.ensures.heard _ c.in_ok-count.was in
     record { fits = omega (arith, h) }
 
 pub round-loop-i-preserved : goal.round-loop-i-preserved
 round-loop-i-preserved t c =
-    heard_more (came_of c.args.rounds c.requires.ready c.requires.le_r c.size-n.ensures c.clear.ensures c.loop-i.invariant c.loop-i-test.true c.project.ensures c.reading-told.auto.area c.reading-told.ensures) c.hear_answer.ensures.counted c.hear_answer.ensures.heard _ _ c.in-Done.is
+    heard_more (came_of c.args.rounds c.requires.ready c.requires.le_r c.size-n.ensures c.clear.ensures c.loop-i.invariant c.loop-i-test.true c.project.ensures c.reading-told.auto.area c.reading-told.ensures) c.hear_answer.ensures.counted c.hear_answer.ensures.heard _ c.in_ok-count.was
 
 pub round-conclude-requires : goal.round-conclude-requires
 round-conclude-requires t c =

@@ -1,5 +1,5 @@
 -- `reading` at order r calls `round` at r - 1, which calls `reading` at r - 1: the measures are 2 r and 2 r + 1.
-use Rattle.std.proofs.Common.{◌-◌, ◌+◌, ◌*◌}
+use Rattle.std.proofs.Common.{◌+◌, ◌*◌}
 use Rattle.value_readings.proofs.Directions.{Progress, round_of}
 use Rattle.value_readings.proofs.Turns.{Turn}
 use Rattle.value_readings.proofs.+reading_round.Given as goal
@@ -10,11 +10,8 @@ decreases-reading l = 2 * l.r
 abbrev pub decreases-round : goal.decreases-round
 decreases-round l = 2 * l.r + 1
 
-abbrev pub invariant-reading-loop-k : goal.invariant-reading-loop-k
-invariant-reading-loop-k l = Turn l.m l.r l.rounds l.left l.initial.area l.area l.k l.used
-
-abbrev pub decreases-reading-loop-k : goal.decreases-reading-loop-k
-decreases-reading-loop-k l = l.rounds - l.k
+abbrev pub invariant-reading-loop : goal.invariant-reading-loop
+invariant-reading-loop l = Turn l.m l.r l.rounds l.left l.initial.area l.area l.counter l.used
 
 abbrev pub invariant-round-loop-i : goal.invariant-round-loop-i
 invariant-round-loop-i l = Progress (round_of l.m l.r l.rounds l.left l.initial.area) l.area l.i l.used l.abstained

@@ -17,7 +17,7 @@ returns-then-r-eq0 c =
 
 pub returns-then-left-eq0 : goal.returns-then-left-eq0
 returns-then-left-eq0 c =
-    read_none _ _ _ _ _ _ c.if-r-eq1.true c.if-left-eq0.true c.unnamed-then-left-eq0.ensures
+    read_none _ _ _ _ _ _ c.if-r-eq1.true c.if-left-eq0.true c.exhausted.ensures
 
 pub first_order-requires : goal.first_order-requires
 first_order-requires c =

@@ -7,27 +7,29 @@ ghost use Rattle.value_steps.specs.Shares.{four_words, words_at};
 ghost use Rattle.value_readings.specs.Polls.{leaf, Poll, Polled, silences};
 
 use crate::rounds::leaves::read_part;
-use value_steps::quads::{Voices, project_four, share_four, share_some};
+use value_steps::quads::{Voices, project_four, share_four};
 
 // How many abstain, 0 or 1.
 fn silence(word: bool) -> usize
     ensures { (result ≡ Rattle.value_readings.specs.Polls.silence word) × (result ≤ 1) }
 {
-    if word { 0 } else { 1 }
+    usize::from(!word)
 }
 
-// Adds what directions 4k to 4k + 3 say, each where it has a word; how many abstain.
+// Adds what directions 4k to 4k + 3 say, each where it has a word; how many abstain. The four come apart: as one value they are packed and taken
+// apart again before the first test.
 fn share_words(m: usize, k: usize, a: bool, b: bool, c: bool, d: bool, area: &mut [i32]) -> usize
     requires projects_four { ProjectsFour m k area.old }
     requires sums_2 { Sums (2 ^ suc m) area.old }
     ensures count { result ≡ silences (four_words a b c d) }
     ensures sums { Written (pos 0) (2 ^ suc m) (2 ^ suc m) (λ p. at area.old (2 ^ suc m + p) +ℤ words_at m k (four_words a b c d) area.old p) area.old area.new }
 {
+    let v = Voices { a, b, c, d };
     if a & b & c & d {
-        share_four(m, k, area);
+        share_four::<true>(m, k, v, area);
         return 0;
     }
-    share_some(m, k, Voices { a, b, c, d }, area);
+    share_four::<false>(m, k, v, area);
     silence(a) + silence(b) + silence(c) + silence(d)
 }
 

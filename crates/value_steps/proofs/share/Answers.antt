@@ -2,7 +2,7 @@
 use native.Mathlib.Omega.{arith}
 use Rattle.direction.proofs.Members.{number_le, direction_lt}
 use Rattle.cosets.specs.SetBelow.{set_none, set_all}
-use Rattle.value_steps.proofs.ShareTurns.{turn_of, rooms, first_asks, second_asks, share_more}
+use Rattle.value_steps.proofs.ShareTurns.{turn_of, first_asks, second_asks, share_more}
 use Rattle.value_steps.proofs.share.Goals as goal
 
 pub highest_bit-h-requires : goal.highest_bit-h-requires
@@ -17,41 +17,13 @@ pub insert_zero-p-requires : goal.insert_zero-p-requires
 insert_zero-p-requires c =
     (omega arith, omega (arith, number_le c.requires.projects.direction))
 
-pub overflow_add-c : goal.overflow_add-c
-overflow_add-c c =
-    (rooms (turn_of c.requires.projects c.requires.sums c.size-n.ensures (omega arith) c.highest_bit-h.ensures.0 c.insert_zero-p.ensures.0 c.loop-q.invariant.1) c.well_formed.1.1.1.0.1).sign
-
-pub overflow_mul-n : goal.overflow_mul-n
-overflow_mul-n c =
-    (rooms (turn_of c.requires.projects c.requires.sums c.size-n.ensures (omega arith) c.highest_bit-h.ensures.0 c.insert_zero-p.ensures.0 c.loop-q.invariant.1) c.well_formed.1.1.1.0.1).twice
-
-pub overflow_add-n : goal.overflow_add-n
-overflow_add-n c =
-    (rooms (turn_of c.requires.projects c.requires.sums c.size-n.ensures (omega arith) c.highest_bit-h.ensures.0 c.insert_zero-p.ensures.0 c.loop-q.invariant.1) c.well_formed.1.1.1.0.1).one
-
 pub hear-requires : goal.hear-requires
 hear-requires c =
     first_asks (turn_of c.requires.projects c.requires.sums c.size-n.ensures (omega arith) c.highest_bit-h.ensures.0 c.insert_zero-p.ensures.0 c.loop-q.invariant.1)
 
-pub overflow_add-c-in-loop-q : goal.overflow_add-c-in-loop-q
-overflow_add-c-in-loop-q c =
-    (rooms (turn_of c.requires.projects c.requires.sums c.size-n.ensures (omega arith) c.highest_bit-h.ensures.0 c.insert_zero-p.ensures.0 c.loop-q.invariant.1) c.well_formed.1.1.1.0.1).sign
-
-pub overflow_mul-n-in-loop-q : goal.overflow_mul-n-in-loop-q
-overflow_mul-n-in-loop-q c =
-    (rooms (turn_of c.requires.projects c.requires.sums c.size-n.ensures (omega arith) c.highest_bit-h.ensures.0 c.insert_zero-p.ensures.0 c.loop-q.invariant.1) c.well_formed.1.1.1.0.1).twice
-
-pub overflow_add-n-in-loop-q : goal.overflow_add-n-in-loop-q
-overflow_add-n-in-loop-q c =
-    (rooms (turn_of c.requires.projects c.requires.sums c.size-n.ensures (omega arith) c.highest_bit-h.ensures.0 c.insert_zero-p.ensures.0 c.loop-q.invariant.1) c.well_formed.1.1.1.0.1).two
-
 pub hear-requires-in-loop-q : goal.hear-requires-in-loop-q
 hear-requires-in-loop-q c =
     second_asks (turn_of c.requires.projects c.requires.sums c.size-n.ensures (omega arith) c.highest_bit-h.ensures.0 c.insert_zero-p.ensures.0 c.loop-q.invariant.1) c.hear.ensures
-
-pub overflow_add-q : goal.overflow_add-q
-overflow_add-q c =
-    (rooms (turn_of c.requires.projects c.requires.sums c.size-n.ensures (omega arith) c.highest_bit-h.ensures.0 c.insert_zero-p.ensures.0 c.loop-q.invariant.1) c.well_formed.1.1.1.0.1).next
 
 pub loop-q-smaller : goal.loop-q-smaller
 loop-q-smaller c =

@@ -1,29 +1,47 @@
 -- `walks::walk_in` meets its contract: each turn of the loop is a step of the walk. Assumes nothing.
-use Rattle.std.proofs.Common.{ℕ, ◌-◌, ◌^◌, ◌<◌, ◌∙◌, arith, length, refl, subst, sym}
-use Rattle.tables.specs.Tables.{ours, slot_of}
-use Rattle.tables.specs.declared.Slot.{Slot}
+use Rattle.std.proofs.Common.{ℕ, Ok, add-one, ◌^◌, ◌<◌, ◌∙◌, ap, arith, length, subst}
+use Rattle.std.proofs.lemmas.Result.{err_from_is_err_and}
+use Rattle.tables.specs.Tables.{Slot, ours, slot_of}
 use Rattle.streets.specs.declared.Plan.{Plan}
 use Rattle.walks.specs.Walk.{Lent, plan_of}
-use Rattle.walks.specs.WalkLaws.{Walks, all_walked, off_walked, on_walking, starts, walks_on}
+use Rattle.walks.specs.WalkLaws.{Walking, starts, too_long, walks_on}
 use Rattle.walks.proofs.walk_in.Goals as goal
 
-pub loop-left-init : goal.loop-left-init
-loop-left-init g c = record { few = omega arith; walks = starts _ _ _ _ c.begin.ensures c.no_counts.ensures refl }
+pub loop-init : goal.loop-init
+loop-init g c = record { few = omega arith; walking = starts _ _ _ _ c.begin.ensures c.no_counts.ensures }
 
-pub loop-left-preserved : goal.loop-left-preserved
-loop-left-preserved g c =
+pub returns-in_err-more : goal.returns-in_err-more
+returns-in_err-more g c =
     let slot : Slot = slot_of ours c.args.s.profile in
     let plan : Plan = plan_of c.args.s in
-    let l = c.loop-left in
+    let l = c.loop in
     let lent : Lent slot (length l.block) (length l.area) = record { size = l.auto.block ∙ c.requires.size; most = omega (arith, l.auto.area, c.requires.most) } in
-    let going = on_walking slot plan c.args.s.start (4097 - l.left) l.w (sym c.goes_on.ensures ∙ c.if-goes_on.true) l.invariant.walks in
     let small : c.args.s.start < 2 ^ 32 = omega arith in
-    let after = walks_on slot plan c.args.s.start lent small (4097 - l.left) l.w c.step-w.result (omega arith) going c.step-w.ensures.onward in
-    record { few = omega arith; walks = subst (λ (n : ℕ). Walks slot plan c.args.s.start n c.step-w.result) (omega arith) after }
+    let p = err_from_is_err_and c.from_residual.result c.from_residual.ensures.1 in
+    rw (p.1, p.2) (walks_on slot plan c.args.s.start lent small l.counter l.w c.in_err-more.was (omega arith) l.invariant.walking c.step.ensures.onward)
 
-pub returns-else-goes_on : goal.returns-else-goes_on
-returns-else-goes_on g c = off_walked _ _ _ (4097 - c.loop-left.left) _ (sym c.goes_on.ensures ∙ c.if-goes_on.false) c.loop-left.invariant.walks
+pub loop-preserved : goal.loop-preserved
+loop-preserved g c =
+    let slot : Slot = slot_of ours c.args.s.profile in
+    let plan : Plan = plan_of c.args.s in
+    let l = c.loop in
+    let lent : Lent slot (length l.block) (length l.area) = record { size = l.auto.block ∙ c.requires.size; most = omega (arith, l.auto.area, c.requires.most) } in
+    let small : c.args.s.start < 2 ^ 32 = omega arith in
+    let more = walks_on slot plan c.args.s.start lent small l.counter l.w (c.in_ok-more.was ∙ ap Ok c.in-Some.is) (omega arith) l.invariant.walking c.step.ensures.onward in
+    record { few = omega arith; walking = rw add-one more }
 
-pub returns-after-loop-left : goal.returns-after-loop-left
-returns-after-loop-left g c =
-    all_walked _ _ _ _ (subst (λ (n : ℕ). Walks (slot_of ours c.args.s.profile) (plan_of c.args.s) c.args.s.start n c.loop-left.w) (omega arith) c.loop-left.invariant.walks)
+pub returns-in-None : goal.returns-in-None
+returns-in-None g c =
+    let slot : Slot = slot_of ours c.args.s.profile in
+    let plan : Plan = plan_of c.args.s in
+    let l = c.loop in
+    let lent : Lent slot (length l.block) (length l.area) = record { size = l.auto.block ∙ c.requires.size; most = omega (arith, l.auto.area, c.requires.most) } in
+    let small : c.args.s.start < 2 ^ 32 = omega arith in
+    walks_on slot plan c.args.s.start lent small l.counter l.w (c.in_ok-more.was ∙ ap Ok c.in-None.is) (omega arith) l.invariant.walking c.step.ensures.onward
+
+pub returns : goal.returns
+returns g c =
+    let slot : Slot = slot_of ours c.args.s.profile in
+    let plan : Plan = plan_of c.args.s in
+    let w = c.loop.w in
+    absurd (too_long slot plan c.args.s.start w (subst (λ (n : ℕ). Walking slot plan c.args.s.start n w) (omega arith) c.loop.invariant.walking))

@@ -1,16 +1,7 @@
--- `words::all_bits` meets its contract: all is the test of the bytes passed. Assumes nothing.
-use Prim.Native.Nat.{◌-◌, ◌≤◌}
-use mathlib.Core.Path.{◌≡◌}
-use lib.Dec.{ltb}
-use lib.ListN.{length}
+use Rattle.std.proofs.Common.{◌≡◌, ltb}
 use Rattle.words.specs.Sum.{all_below}
 use Rattle.words.specs.Word.{bit}
 use Rattle.words.proofs.all_bits.Given as goal
 
-abbrev pub invariant-loop-p : goal.invariant-loop-p
-invariant-loop-p l =
-    (l.p-end ≡ length l.s) × (l.p ≤ length l.s) × (l.all ≡ all_below l.p (λ q. ltb (bit l.s q) 2))
-
-abbrev pub decreases-loop-p : goal.decreases-loop-p
-decreases-loop-p l =
-    length l.s - l.p
+abbrev pub invariant-loop-b : goal.invariant-loop-b
+invariant-loop-b l = l.all ≡ all_below l.b-index (λ p. ltb (bit l.s p) 2)

@@ -1,14 +1,10 @@
 -- `words::distance_long` meets its contract: the loop counts the places so far. Assumes nothing.
-use Prim.Native.Nat.{◌-◌, ◌≤◌}
-use mathlib.Core.Path.{◌≡◌}
+use Rattle.std.proofs.Common.{◌≡◌, ◌≤◌, length, drop}
 use Rattle.words.specs.Sum.{sum_below}
 use Rattle.words.specs.Word.{differs}
 use Rattle.words.proofs.distance_long.Given as goal
 
-abbrev pub invariant-loop-p : goal.invariant-loop-p
-invariant-loop-p l =
-    (l.p ≤ l.n) × (l.d ≤ l.p) × (l.d ≡ sum_below l.p (differs l.u l.v))
-
-abbrev pub decreases-loop-p : goal.decreases-loop-p
-decreases-loop-p l =
-    l.n - l.p
+abbrev pub invariant-loop-x : goal.invariant-loop-x
+invariant-loop-x l =
+    let i = length l.yielded in
+    (l.x-iterator.a.rest.now ≡ drop i l.u) × (l.x-iterator.b.rest.now ≡ drop i l.v) × (l.d ≤ i) × (l.d ≡ sum_below i (differs l.u l.v))

@@ -11,4 +11,4 @@ unfolding first_refusal slot_of known in_limits
 passes n e = rw e
 
 pub returns : goal.returns
-returns c = c.write_capture_profile.ensures.output ∙ rw (passes (length c.args.out.now) c.requires)
+returns c = c.write_capture.ensures.output ∙ rw (passes (length c.args.out.now) c.requires)

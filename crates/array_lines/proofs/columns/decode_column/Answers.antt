@@ -18,24 +18,24 @@ pub put-requires : goal.put-requires
 put-requires c =
     let p = c.requires in
     let runs = column_runs p _ c.gather.ensures refl refl in
-    put_asks p _ c.gather.ensures (line_taken runs c.run-answer.ensures c.in-Accepted.is) c.run-answer.ensures.output (omega arith)
+    put_asks p _ c.gather.ensures (line_taken runs c.run-answer.ensures c.in-Ok.is) c.run-answer.ensures.output (omega arith)
 
 pub test-requires : goal.test-requires
 test-requires c =
     let p = c.requires in
     (omega (arith, p.reads.side.most), p.reads.side.order, column_word p _ c.gather.ensures, omega (arith, p.space))
 
-pub returns-in-Accepted : goal.returns-in-Accepted
-returns-in-Accepted c =
+pub returns-in-Ok : goal.returns-in-Ok
+returns-in-Ok c =
     let p = c.requires in
     let runs = column_runs p _ c.gather.ensures refl refl in
-    let is = c.in-Accepted.is in
+    let is = c.in-Ok.is in
     column_taken p _ c.gather.ensures (line_taken runs c.run-answer.ensures is) c.run-answer.ensures.output (omega arith) _ (line_leaves runs c.run-answer.ensures is)
     c.put.ensures
 
-pub returns-in-Refused : goal.returns-in-Refused
-returns-in-Refused c =
+pub returns-in-Err : goal.returns-in-Err
+returns-in-Err c =
     let p = c.requires in
     let runs = column_runs p _ c.gather.ensures refl refl in
-    let is = c.in-Refused.is in
+    let is = c.in-Err.is in
     column_kept p _ c.gather.ensures (line_kept runs c.run-answer.ensures is) (line_leaves runs c.run-answer.ensures is) c.test.ensures

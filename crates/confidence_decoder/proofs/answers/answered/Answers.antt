@@ -9,12 +9,12 @@ use Rattle.confidence_decoder.proofs.answers.answered.Goals as goal
 
 pub mended-requires : goal.mended-requires
 mended-requires c =
-    (c.requires.0, c.requires.1, subst (Accepts c.args.m c.args.out.now) c.in-Accepted.is c.requires.2)
+    (c.requires.0, c.requires.1, subst (Accepts c.args.m c.args.out.now) c.in-Ok.is c.requires.2)
 
-pub returns-in-Accepted : goal.returns-in-Accepted
-returns-in-Accepted c =
-    let w = signs_of c.args.m c.args.values.now in record { values = ap (values 0 c.in-Accepted.rounds c.in-Accepted.leaves) c.mended.ensures ∙ ap (values_in c.args.m w c.args.out.now) (sym c.in-Accepted.is); place = ap (place_told c.args.ended.place) (sym c.in-Accepted.is) }
+pub returns-in-Ok : goal.returns-in-Ok
+returns-in-Ok c =
+    let w = signs_of c.args.m c.args.values.now in record { values = ap (values 0 c.in-Ok.read.rounds c.in-Ok.read.leaves) c.mended.ensures ∙ ap (values_in c.args.m w c.args.out.now) (sym c.in-Ok.is); place = ap (place_told c.args.ended.place) (sym c.in-Ok.is) }
 
-pub returns-in-Refused : goal.returns-in-Refused
-returns-in-Refused c =
-    let w = signs_of c.args.m c.args.values.now in record { values = ap (λ (n : ℕ). values n c.in-Refused.rounds c.in-Refused.leaves 0) c.refusal_of.ensures.0 ∙ ap (values_in c.args.m w c.args.out.now) (sym c.in-Refused.is); place = c.refusal_of.ensures.1 ∙ ap (place_told c.args.ended.place) (sym c.in-Refused.is) }
+pub returns-in-Err : goal.returns-in-Err
+returns-in-Err c =
+    let w = signs_of c.args.m c.args.values.now in record { values = ap (λ (n : ℕ). values n c.in-Err.unread.rounds c.in-Err.unread.leaves 0) c.refusal_of.ensures.0 ∙ ap (values_in c.args.m w c.args.out.now) (sym c.in-Err.is); place = c.refusal_of.ensures.1 ∙ ap (place_told c.args.ended.place) (sym c.in-Err.is) }

@@ -1,5 +1,5 @@
 -- `confidence_decoder::answers::mended` meets its contract: the loop counts the places so far. Assumes nothing.
-use Prim.Native.Nat.{◌-◌, ◌^◌, ◌≤◌}
+use Prim.Native.Nat.{◌≤◌}
 use mathlib.Core.Path.{◌≡◌}
 use Rattle.words.specs.Sum.{sum_below}
 use Rattle.words.specs.Word.{differs}
@@ -8,8 +8,4 @@ use Rattle.confidence_decoder.proofs.answers.mended.Given as goal
 
 abbrev pub invariant-loop-p : goal.invariant-loop-p
 invariant-loop-p l =
-    (l.p-end ≡ 2 ^ l.m) × (l.p ≤ 2 ^ l.m) × (l.d ≤ l.p) × (l.d ≡ sum_below l.p (differs (signs_of l.m l.values) l.word))
-
-abbrev pub decreases-loop-p : goal.decreases-loop-p
-decreases-loop-p l =
-    l.p-end - l.p
+    (l.d ≤ l.p) × (l.d ≡ sum_below l.p (differs (signs_of l.m l.values) l.word))

@@ -1,6 +1,4 @@
 -- `confidence_decoder::runs::load` meets its contract. Assumes nothing.
-use Prim.Native.Nat.{◌-◌, ◌≤◌}
-use lib.ListN.{length}
 use lib.IntN.{pos}
 use Rattle.words.specs.Written.{Written}
 use Rattle.area.specs.Area.{at}
@@ -8,8 +6,4 @@ use Rattle.confidence_decoder.proofs.runs.load.Given as goal
 
 abbrev pub invariant-loop-i : goal.invariant-loop-i
 invariant-loop-i l =
-    (l.i ≤ length l.values) × Written (pos 0) 0 l.i (at l.values) l.initial.area l.area
-
-abbrev pub decreases-loop-i : goal.decreases-loop-i
-decreases-loop-i l =
-    length l.values - l.i
+    Written (pos 0) 0 l.i (at l.values) l.initial.area l.area

@@ -1,12 +1,16 @@
 -- `confidence_decoder::value_checks::range` meets its contract. Assumes nothing.
-use native.Mathlib.Omega.{arith}
-use Rattle.confidence_decoder.specs.CheckedLaws.{none_outside, outside_named}
+use mathlib.Core.Path.{sym, ◌∙◌}
+use Rattle.confidence_decoder.specs.CheckedLaws.{all_within, found_outside, nothing_outside}
 use Rattle.confidence_decoder.proofs.value_checks.range.Goals as goal
 
-pub returns-then-p-values : goal.returns-then-p-values
-returns-then-p-values c =
-    outside_named c.lowest_outside-p.ensures (omega arith)
+pub returns-then-all_inside : goal.returns-then-all_inside
+returns-then-all_inside c =
+    all_within (sym c.all_inside.ensures ∙ c.if-all_inside.true)
 
-pub returns : goal.returns
-returns c =
-    none_outside c.lowest_outside-p.ensures (omega arith)
+pub returns-in-Some : goal.returns-in-Some
+returns-in-Some c =
+    found_outside (sym c.first_outside.ensures ∙ c.in-Some.is)
+
+pub returns-in-None : goal.returns-in-None
+returns-in-None c =
+    nothing_outside (sym c.first_outside.ensures ∙ c.in-None.is)

@@ -17,35 +17,33 @@ use Rattle.gap.proofs.pairs.next.Goals as goal
 use Rattle.gap.proofs.pairs.next.Goals.{then-x-g, else-x-g, then-second-z, else-second-z}
 use Rattle.std.proofs.Math.Facts.{of_z-to_z}
 
-pub loop-i-init : goal.loop-i-init
-loop-i-init c =
-    (omega arith, sym (count_none _ _), greatest_none)
+pub loop-x-init : goal.loop-x-init
+loop-x-init c = (sym (count_none _ _), greatest_none)
 
 pub overflow_add-count : goal.overflow_add-count
 overflow_add-count c =
     let few = c.requires.0.few in
     omega (arith, count_most)
 
-pub loop-i-preserved : goal.loop-i-preserved
-loop-i-preserved c =
-    let size-at : Size (at c.args.sizes.now c.loop-i.i) = let s = c.requires.0 in
-    let l = c.loop-i in
-    record { whole = s.whole l.i (omega arith); small = s.small l.i (omega arith) } in
-    let l = c.loop-i in
-    let second : Greatest l.i _ l.second-bits = rw (of_z-to_z l.auto.second) at l.invariant.2 in
+pub loop-x-preserved : goal.loop-x-preserved
+loop-x-preserved c =
+    let size-at : Size (at c.args.sizes.now c.loop-x.x-index) = let s = c.requires.0 in
+    let l = c.loop-x in
+    record { whole = s.whole l.x-index (omega arith); small = s.small l.x-index (omega arith) } in
+    let l = c.loop-x in
+    let second : Greatest l.x-index _ l.second-bits = rw (of_z-to_z l.auto.second) at l.invariant.1 in
     let f = size_at c.args.sizes.now in
     let g = nat_abs (stored c.args.g) in
     let told : of_z w32 c.args.g ≡ g = size_word c.requires.1 ∙ sym (ap nat_abs (size_read c.requires.1)) in
     let word = size_word size-at in
     let z = c.under-z.ensures ∙ ap (λ (a : ℕ). pos (cond (eqb a g) 0 a)) (ap nat_abs (size_read size-at)) in
     let small = size-at.small in (
-      omega arith,
       elim c.if-x-g.branch [
-        | then-x-g w ↦ omega (arith, l.invariant.1, count_hit f g l.i (sym word ∙ w.if-x-g.true ∙ told))
-        | else-x-g w ↦ omega (arith, l.invariant.1, count_miss f g l.i (λ e. w.if-x-g.false (word ∙ e ∙ sym told)))
+        | then-x-g w ↦ omega (arith, l.invariant.0, count_hit f g l.x-index (sym word ∙ w.if-x-g.true ∙ told))
+        | else-x-g w ↦ omega (arith, l.invariant.0, count_miss f g l.x-index (λ e. w.if-x-g.false (word ∙ e ∙ sym told)))
       ],
       elim c.if-second-z.branch [
-        | then-second-z w ↦ greatest_new second z (omega (arith, unlike_most f g l.i, small)) w.if-second-z.true (ap (of_z w32) (w.second-is ∙ as_it_is {z = c.under-z.result} c.under-z.type_inv))
-        | else-second-z w ↦ greatest_kept second z (omega (arith, unlike_most f g l.i, small)) w.if-second-z.false (ap (of_z w32) w.second-is ∙ of_z-to_z l.auto.second)
+        | then-second-z w ↦ greatest_new second z (omega (arith, unlike_most f g l.x-index, small)) w.if-second-z.true (ap (of_z w32) (w.second-is ∙ as_it_is {z = c.under-z.result} c.under-z.type_inv))
+        | else-second-z w ↦ greatest_kept second z (omega (arith, unlike_most f g l.x-index, small)) w.if-second-z.false (ap (of_z w32) w.second-is ∙ of_z-to_z l.auto.second)
       ],
     )

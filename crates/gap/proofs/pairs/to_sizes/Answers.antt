@@ -1,9 +1,8 @@
 -- `gap::pairs::to_sizes` meets its contract. Assumes nothing.
-use Prim.Native.Nat.{◌+◌}
-use mathlib.Core.Path.{◌≡◌, refl, ap₂, ◌∙◌}
+use Prim.Native.Nat.{◌+◌, ◌<◌}
+use mathlib.Core.Path.{◌≡◌, ap₂, ◌∙◌}
 use native.Mathlib.Omega.{arith}
 use lib.IntN.{ℤ, pos}
-use lib.ListN.{length-set}
 use Rattle.std.proofs.Common.{of_z, ap}
 use Rattle.std.proofs.Math.Facts.{of_z-to_z}
 use Rattle.std.specs.Int.{w32}
@@ -18,24 +17,21 @@ use Rattle.gap.proofs.pairs.to_sizes.Goals as goal
 use Rattle.gap.proofs.pairs.to_sizes.Goals.{then-most-s, else-most-s, then-lower-t, else-lower-t}
 
 pub loop-i-init : goal.loop-i-init
-loop-i-init c =
-    (omega arith, refl, written_none _ _ _ _, greatest_none, greatest_none)
+loop-i-init c = (written_none _ _ _ _, greatest_none, greatest_none)
 
 pub loop-i-preserved : goal.loop-i-preserved
 loop-i-preserved c =
-    let first : let l = c.loop-i in at l.part l.i ≡ at c.args.part.now l.i = let l = c.loop-i in l.invariant.2.above l.i (omega arith) in
+    let first : let l = c.loop-i in at l.part l.i ≡ at c.args.part.now l.i = let l = c.loop-i in l.invariant.0.above l.i (omega arith) in
     let second : let l = c.loop-i in
-    let h = c.args.h in at l.part (h + l.i) ≡ at c.args.part.now (h + l.i) = let l = c.loop-i in l.invariant.2.above (c.args.h + l.i) (omega arith) in
+    let h = c.args.h in at l.part (h + l.i) ≡ at c.args.part.now (h + l.i) = let l = c.loop-i in l.invariant.0.above (c.args.h + l.i) (omega arith) in
     let l = c.loop-i in
-    let most : Greatest l.i _ l.most-bits = rw (of_z-to_z l.auto.most) at l.invariant.3 in
-    let lower : Greatest l.i _ l.lower-bits = rw (of_z-to_z l.auto.lower) at l.invariant.4 in
+    let most : Greatest l.i _ l.most-bits = rw (of_z-to_z l.auto.most) at l.invariant.1 in
+    let lower : Greatest l.i _ l.lower-bits = rw (of_z-to_z l.auto.lower) at l.invariant.2 in
     let k = c.requires in
-    let i = c.loop-i-test.true in
+    let i : l.i < c.args.h = omega arith in
     let size = pair_is k i (c.size_of-s.ensures ∙ ap₂ (λ (x y : ℤ). pos (pair_size (stored x) (stored y))) (first) (second)) in
     let other = lesser_read k i (c.lesser_of-t.ensures ∙ ap₂ (λ (x y : ℤ). pos (lesser_size (stored x) (stored y))) (first) (second)) in (
-      omega arith,
-      simp length-set l.invariant.1,
-      written_more l.invariant.2 _ _ (omega arith) (omega (arith, k.size)) (as_it_is c.size_of-s.type_inv ∙ size),
+      written_more l.invariant.0 _ _ (omega arith) (omega (arith, k.size)) (as_it_is c.size_of-s.type_inv ∙ size),
       elim c.if-most-s.branch [
         | then-most-s w ↦ greatest_new most size (omega (arith, pair_small k i)) w.if-most-s.true (ap (of_z w32) (w.most-is ∙ as_it_is {z = c.size_of-s.result} c.size_of-s.type_inv))
         | else-most-s w ↦ greatest_kept most size (omega (arith, pair_small k i)) w.if-most-s.false (ap (of_z w32) w.most-is ∙ of_z-to_z l.auto.most)

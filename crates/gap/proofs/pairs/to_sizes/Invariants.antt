@@ -1,8 +1,5 @@
 -- `gap::pairs::to_sizes` meets its contract. Assumes nothing.
-use Prim.Native.Nat.{◌-◌, ◌≤◌}
-use mathlib.Core.Path.{◌≡◌}
-use lib.IntN.{pos}
-use lib.ListN.{length}
+use Rattle.std.specs.Prelude.{pos}
 use Rattle.std.proofs.Common.{of_z}
 use Rattle.std.specs.Int.{w32}
 use Rattle.peaks.specs.Peaks.{lesser_sizes, pair_sizes}
@@ -12,9 +9,5 @@ use Rattle.gap.proofs.pairs.to_sizes.Given as goal
 
 abbrev pub invariant-loop-i : goal.invariant-loop-i
 invariant-loop-i l =
-    (l.i ≤ l.h) × (length l.part ≡ length l.initial.part) × Written (pos 0) 0 l.i (λ j. pos (pair_sizes l.h l.initial.part j)) l.initial.part l.part
+    Written (pos 0) 0 l.i (λ j. pos (pair_sizes l.h l.initial.part j)) l.initial.part l.part
     × Greatest l.i (pair_sizes l.h l.initial.part) (of_z w32 l.most) × Greatest l.i (lesser_sizes l.h l.initial.part) (of_z w32 l.lower)
-
-abbrev pub decreases-loop-i : goal.decreases-loop-i
-decreases-loop-i l =
-    l.h - l.i

@@ -4,4 +4,4 @@ use Rattle.harness.proofs.load_calls.rm_load_block.Goals as goal
 
 pub returns : goal.returns
 returns c =
-    block_returns c.next_block_profile-next.ensures c.pack_next.ensures
+    block_returns c.next_block-next.ensures c.pack_next.ensures

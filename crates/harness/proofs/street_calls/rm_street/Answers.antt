@@ -4,4 +4,4 @@ use Rattle.harness.proofs.street_calls.rm_street.Goals as goal
 
 pub returns : goal.returns
 returns c =
-    street_returns c.run_profile-ran.ensures c.pack_ran.ensures
+    street_returns c.run-ran.ensures c.pack_ran.ensures

@@ -1,12 +1,8 @@
 -- `load::captures::draw_records` meets its contract: the loop writes a record a turn. Assumes nothing.
-use Prim.Native.Nat.{◌-◌}
+use Rattle.tables.specs.Tables.{some}
 use Rattle.load.specs.CaptureLaws.{Recorded}
 use Rattle.load.proofs.captures.draw_records.Given as goal
 
 abbrev pub invariant-loop-i : goal.invariant-loop-i
 invariant-loop-i l =
-    Recorded l.slot l.number l.asked l.start l.blocks l.initial.out l.out l.state l.short l.i
-
-abbrev pub decreases-loop-i : goal.decreases-loop-i
-decreases-loop-i l =
-    l.blocks - l.i
+    Recorded (some l.entry) l.number l.asked l.start l.blocks l.initial.out l.out l.state l.short l.i

@@ -12,24 +12,24 @@ use Rattle.load.proofs.records.octet.Goals as goal
 room : (f : ℕ → ℕ) → ((i : ℕ) → f i < 2) → (i b : ℕ) → i < 8 → b ≡ binary i f → b * 2 < 255
 room f h i b l e = let q : 2 ^ i ≤ 2 ^ 7 = pow_mono (let l : i ≤ 7 = omega arith in l) in omega (arith, binary-lt f h i)
 
-pub loop-i-init : goal.loop-i-init
+pub loop-x-init : goal.loop-x-init
 unfolding total
-loop-i-init c =
-    (omega arith, refl)
+loop-x-init c =
+    refl
 
 pub overflow_mul-b : goal.overflow_mul-b
 overflow_mul-b c =
-    omega (arith, room _ c.requires.1 c.loop-i.i c.loop-i.b (omega arith) c.loop-i.invariant.1)
+    omega (arith, room _ c.requires.1 c.loop-x.x-index c.loop-x.b (omega arith) c.loop-x.invariant)
 
 pub overflow_add-b : goal.overflow_add-b
 overflow_add-b c =
-    omega (arith, room _ c.requires.1 c.loop-i.i c.loop-i.b (omega arith) c.loop-i.invariant.1, c.requires.1 c.loop-i.i)
+    omega (arith, room _ c.requires.1 c.loop-x.x-index c.loop-x.b (omega arith) c.loop-x.invariant, c.requires.1 c.loop-x.x-index)
 
-pub loop-i-preserved : goal.loop-i-preserved
-loop-i-preserved c =
+pub loop-x-preserved : goal.loop-x-preserved
+loop-x-preserved c =
     let f = bit c.args.bits.now in
-    (omega arith, rw c.loop-i.invariant.1 (binary_more f c.loop-i.i))
+    rw c.loop-x.invariant (binary_more f c.loop-x.x-index)
 
 pub returns : goal.returns
 returns c =
-    c.loop-i.invariant.1 ∙ ap (λ (n : ℕ). binary n (bit c.args.bits.now)) {x = c.loop-i.i} {y = 8} (omega arith)
+    c.loop-x.invariant ∙ ap (λ (n : ℕ). binary n (bit c.args.bits.now)) {x = c.loop-x.x-index} {y = 8} (omega arith)

@@ -1,5 +1,5 @@
 -- `load::records::pack` meets its contract: the loop writes a byte a turn. Assumes nothing.
-use mathlib.Core.Path.{refl, ◌∙◌}
+use mathlib.Core.Path.{◌∙◌}
 use native.Mathlib.Omega.{arith}
 use Rattle.words.specs.Written.{written_none, written_more, written_all}
 use Rattle.load.specs.RecordLaws.{eight_bits, eight-length, eight-octet, packed_is}
@@ -7,7 +7,7 @@ use Rattle.load.proofs.records.pack.Goals as goal
 
 pub loop-k-init : goal.loop-k-init
 loop-k-init c =
-    (refl, omega arith, refl, written_none 0 0 _ _)
+    written_none 0 0 _ _
 
 pub overflow_mul-at : goal.overflow_mul-at
 overflow_mul-at c =
@@ -29,9 +29,8 @@ octet-requires c =
 pub loop-k-preserved : goal.loop-k-preserved
 loop-k-preserved c =
     let k = c.loop-k.k in
-    let w = written_more c.loop-k.invariant.3 k _ (omega arith) (omega arith) (c.octet.ensures ∙ eight-octet c.args.word.now k (omega (arith, c.requires.size))) in
-    (refl, omega arith, w.long, w)
+    written_more c.loop-k.invariant k _ (omega arith) (omega arith) (c.octet.ensures ∙ eight-octet c.args.word.now k (omega (arith, c.requires.size)))
 
 pub returns : goal.returns
 returns c =
-    written_all c.loop-k.invariant.3 (omega arith) ∙ packed_is c.args.word.now (omega (arith, c.requires.size))
+    written_all c.loop-k.invariant (omega arith) ∙ packed_is c.args.word.now (omega (arith, c.requires.size))

@@ -3,6 +3,6 @@ use mathlib.Core.Path.{sym, ap, ◌∙◌}
 use Rattle.refusals.specs.Refusals.{answer_number}
 use Rattle.packing.proofs.by_table.pack_number.Goals as goal
 
-pub returns-in-Refused : goal.returns-in-Refused
-returns-in-Refused c =
-    c.number.ensures ∙ ap answer_number (sym c.in-Refused.is)
+pub returns-in-Err : goal.returns-in-Err
+returns-in-Err c =
+    c.number.ensures ∙ ap answer_number (sym c.in-Err.is)

@@ -1,7 +1,6 @@
 -- `packing::loads::pack` meets its contract. Assumes nothing.
 use native.Mathlib.Omega.{arith}
-use Rattle.words.proofs.WordLaws.{indicator-lt}
-use Rattle.load.specs.CaptureLaws.{bool_byte_lem}
+use Rattle.words.proofs.WordLaws.{bool_byte_lem, indicator-lt}
 use Rattle.packing.proofs.loads.pack.Goals as goal
 
 pub overflow_mul-result : goal.overflow_mul-result

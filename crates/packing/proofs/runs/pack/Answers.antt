@@ -1,7 +1,6 @@
 -- `packing::runs::pack` meets its contract. Assumes nothing.
 use native.Mathlib.Omega.{arith}
-use Rattle.words.proofs.WordLaws.{indicator-lt}
-use Rattle.load.specs.CaptureLaws.{bool_byte_lem}
+use Rattle.words.proofs.WordLaws.{bool_byte_lem, indicator-lt}
 use Rattle.packing.proofs.runs.pack.Goals as goal
 
 pub overflow_mul-result-2 : goal.overflow_mul-result-2

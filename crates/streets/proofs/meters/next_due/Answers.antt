@@ -3,7 +3,7 @@ use native.Mathlib.Nat.{le_refl}
 use native.Mathlib.Omega.{arith}
 use mathlib.Core.Path.{sym, ◌∙◌}
 use borrow.Author.Count.{below_more}
-use Rattle.streets.specs.MeterLaws.{due_is}
+use Rattle.streets.specs.MeterLaws.{due_found, due_missing}
 use Rattle.streets.proofs.meters.next_due.Goals as goal
 
 pub loop-i-init : goal.loop-i-init
@@ -13,7 +13,7 @@ loop-i-init c =
 pub returns-then-waits : goal.returns-then-waits
 returns-then-waits c =
     let l = c.loop-i in
-    due_is _ _ _ (record { within = omega arith; before = l.invariant.1; found = λ z. sym c.waits.ensures ∙ c.if-waits.true })
+    due_found _ _ _ (record { within = omega arith; before = l.invariant.1; found = λ z. sym c.waits.ensures ∙ c.if-waits.true }) (omega arith)
 
 pub loop-i-preserved : goal.loop-i-preserved
 loop-i-preserved c =
@@ -21,4 +21,4 @@ loop-i-preserved c =
 
 pub returns : goal.returns
 returns c =
-    due_is _ _ _ (record { within = le_refl _; before = λ q l. c.loop-i.invariant.1 q (omega arith); found = λ z. absurd (omega arith) })
+    due_missing _ _ _ (record { within = le_refl _; before = λ q l. c.loop-i.invariant.1 q (omega arith); found = λ z. absurd (omega arith) })

@@ -4,12 +4,12 @@ use Rattle.streets.proofs.sends.judge.Goals as goal
 
 pub returns-then-distance-eq0 : goal.returns-then-distance-eq0
 returns-then-distance-eq0 c =
-    right_is _ _ _ c.in-Accepted.is c.distance.ensures c.if-distance-eq0.true
+    right_is _ _ _ c.in-Ok.is c.distance.ensures c.if-distance-eq0.true
 
 pub returns-else-distance-eq0 : goal.returns-else-distance-eq0
 returns-else-distance-eq0 c =
-    other_is _ _ _ c.in-Accepted.is c.distance.ensures c.if-distance-eq0.false
+    other_is _ _ _ c.in-Ok.is c.distance.ensures c.if-distance-eq0.false
 
-pub returns-in-Refused : goal.returns-in-Refused
-returns-in-Refused c =
-    refused_is _ _ _ c.in-Refused.is
+pub returns-in-Err : goal.returns-in-Err
+returns-in-Err c =
+    refused_is _ _ _ c.in-Err.is

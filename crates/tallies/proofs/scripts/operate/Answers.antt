@@ -18,7 +18,7 @@ bounds-script-at-then-code-eq0 c =
 
 pub returns-then-code-eq0 : goal.returns-then-code-eq0
 returns-then-code-eq0 c =
-    c.done.ensures ∙ rw (c.counted.ensures, c.wide.ensures) (counts _ _ _ c.if-code-eq0.true)
+    c.done.ensures ∙ rw (c.counted.ensures, c.from.ensures) (counts _ _ _ c.if-code-eq0.true)
 
 pub name_at-name-requires : goal.name_at-name-requires
 name_at-name-requires c =

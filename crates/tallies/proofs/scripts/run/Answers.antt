@@ -21,4 +21,4 @@ loop-made-preserved c =
 
 pub returns : goal.returns
 returns c =
-    running_ends c.loop-made.invariant c.ended-2.ensures.0 c.ended-2.ensures.1 (λ l. absurd (omega (arith, c.loop-made.invariant.written.long)))
+    running_ends c.loop-made.invariant (omega (arith, c.ended-2.ensures.0, c.loop-made.invariant.written.long)) c.ended-2.ensures.1 (λ l. absurd (omega (arith, c.loop-made.invariant.written.long)))

@@ -9,13 +9,13 @@ use Rattle.code.specs.FirstOrder.{levels_test}
 use Rattle.code.proofs.FirstOrderLaws.{levels_fail}
 use Rattle.confidences.specs.Values.{Values}
 use Rattle.value_orders.specs.Leaves.{clean_test, is_some, sign_at}
-use Rattle.value_orders.specs.CleanLaws.{clean_not, clean_is, clean_last, values_fewer}
+use Rattle.value_orders.specs.CleanLaws.{clean_not, clean_is, clean_last, values_fewer, values_marked}
 use Rattle.value_orders.proofs.clean.is_clean.Goals as goal
 
 pub levels_from-requires : goal.levels_from-requires
 unfolding levels_test
 levels_from-requires c =
-    record { first_le_m = (omega arith, c.requires.0, c.requires.1); part_value = refl }
+    record { first_le_m = (omega arith, c.requires.0, values_marked c.requires.1); area_value = refl }
 
 pub returns-then-not-levels_from : goal.returns-then-not-levels_from
 returns-then-not-levels_from c =
@@ -34,7 +34,7 @@ returns-then-m-lt3 c =
 
 pub first_levels-requires : goal.first_levels-requires
 first_levels-requires c =
-    values_fewer (pow_mono {i = 3} (omega arith)) c.requires.1
+    values_marked (values_fewer (pow_mono {i = 3} (omega arith)) c.requires.1)
 
 pub returns-then-not-first_levels : goal.returns-then-not-first_levels
 returns-then-not-first_levels c =
@@ -57,7 +57,7 @@ returns-then-m-eq3 c =
 pub levels_from-requires-2 : goal.levels_from-requires-2
 levels_from-requires-2 c =
     let passed : levels_test 3 (sign_at c.args.part.now) ≡ true = sym c.first_levels.ensures ∙ c.if-not-first_levels.false in
-    record { first_le_m = (omega arith, omega (arith, c.requires.0), values_fewer (pow_mono (omega arith)) c.requires.1); part_value = passed }
+    record { first_le_m = (omega arith, omega (arith, c.requires.0), values_marked (values_fewer (pow_mono (omega arith)) c.requires.1)); area_value = passed }
 
 pub returns-then-not-levels_from-2 : goal.returns-then-not-levels_from-2
 returns-then-not-levels_from-2 c =

@@ -13,19 +13,15 @@ use Rattle.value_orders.proofs.clean.none_zero.Goals as goal
 
 pub loop-i-init : goal.loop-i-init
 loop-i-init c =
-    (omega arith, all_none _)
-
-pub bounds-part-i : goal.bounds-part-i
-bounds-part-i c =
-    omega (arith, c.requires.room)
+    all_none _
 
 pub loop-i-preserved : goal.loop-i-preserved
 loop-i-preserved c =
     let l = c.loop-i in
     let z = at c.args.part.now l.i in
-    let fits = fits_32 z (omega (arith, c.requires.small l.i c.loop-i-test.true)) in
-    (omega arith, ap (λ (y : Bool). l.some && not y) (zero_test z fits.sfits) ∙ all_more l.i _ l.some l.invariant.1)
+    let fits = fits_32 z (omega (arith, c.requires.small l.i (omega arith))) in
+    ap (λ (y : Bool). l.some && not y) (zero_test z fits.sfits) ∙ all_more l.i _ l.some l.invariant
 
 pub returns : goal.returns
 returns c =
-    c.loop-i.invariant.1 ∙ ap (λ (n : ℕ). all_below n (is_some c.args.part.now)) (omega arith)
+    c.loop-i.invariant ∙ ap (λ (n : ℕ). all_below n (is_some c.args.part.now)) (omega arith)

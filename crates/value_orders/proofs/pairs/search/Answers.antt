@@ -1,6 +1,6 @@
 -- `value_orders::pairs::search` meets its contract: the last and the first place of the greatest size lead to the peak. Assumes nothing.
 use Prim.Native.Nat.{ℕ, ◌+◌, ◌-◌, ◌<◌}
-use mathlib.Core.Path.{refl, sym, ap, ◌∙◌}
+use mathlib.Core.Path.{sym, ap, ◌∙◌}
 use native.Mathlib.Omega.{arith}
 use lib.IntN.{nat_abs, pos}
 use lib.Signed.{rem_z}
@@ -38,7 +38,7 @@ returns-then-i-j c =
     let i_is = ap (λ (n : ℕ). 511 - n) (rest_is c.ends-e.ensures.first_value (omega arith)) in
     let j_is = rest_is c.ends-e.ensures.last_value (omega arith) in
     let x = at c.args.part.now in
-    places_apart x (λ i. x (c.args.h + i)) c.requires.some c.requires.few (λ e. c.if-i-j.true (i_is ∙ e ∙ sym j_is)) refl
+    places_apart x (λ i. x (c.args.h + i)) c.requires.some c.requires.few (λ e. c.if-i-j.true (i_is ∙ e ∙ sym j_is))
 
 pub bounds-part-j : goal.bounds-part-j
 bounds-part-j c =

@@ -1,37 +1,16 @@
 -- `value_steps::quads::hear_four` meets its contract. Assumes nothing.
-use lib.Dec.{lit<}
-use Rattle.value_steps.specs.Shares.{four_places, voices_of}
-use Rattle.value_steps.proofs.FourShares.{Heard, heard_adds, heard_written, in_order}
+use Rattle.value_steps.specs.Shares.{voices_of}
+use Rattle.value_steps.proofs.FourShares.{Heard, heard_adds, heard_written}
 use Rattle.value_steps.proofs.quads.hear_four.Goals as goal
 
-pub heard-v0-requires : goal.heard-v0-requires
-heard-v0-requires c =
-    record { four_says = c.requires.says; i_bound = (lit< tt, lit< tt, lit< tt, lit< tt) }
-
-pub heard-v1-requires : goal.heard-v1-requires
-heard-v1-requires c =
-    record { four_says = c.requires.says; i_bound = (lit< tt, lit< tt, lit< tt, lit< tt) }
-
-pub heard-v2-requires : goal.heard-v2-requires
-heard-v2-requires c =
-    record { four_says = c.requires.says; i_bound = (lit< tt, lit< tt, lit< tt, lit< tt) }
-
-pub heard-v3-requires : goal.heard-v3-requires
-heard-v3-requires c =
-    record { four_says = c.requires.says; i_bound = (lit< tt, lit< tt, lit< tt, lit< tt) }
-
 pub add_four-requires : goal.add_four-requires
-add_four-requires c =
-    let all : Heard (voices_of c.args.v) (four_places 0 0 0 0) (four_places 1 1 1 1) (four_places 2 2 2 2) (four_places 3 3 3 3) c.args.n c.args.c c.args.o c.args.r c.args.area.now
-    c.heard-v0.result c.heard-v1.result c.heard-v2.result c.heard-v3.result = record { asks = c.requires; zeroth = c.heard-v0.ensures; first = c.heard-v1.ensures; second = c.heard-v2.ensures; third = c.heard-v3.ensures } in
-    heard_adds (all)
+add_four-requires g c =
+    let all : Heard (voices_of c.args.v) _ c.args.n c.args.c c.args.o c.args.r c.args.area.now c.heard-v0.result c.heard-v1.result c.heard-v2.result c.heard-v3.result =
+    record { asks = c.requires; zeroth = c.heard-v0.ensures; first = c.heard-v1.ensures; second = c.heard-v2.ensures; third = c.heard-v3.ensures } in
+    heard_adds all
 
 pub returns : goal.returns
-returns c =
-    let all : Heard (voices_of c.args.v) (four_places 0 0 0 0) (four_places 1 1 1 1) (four_places 2 2 2 2) (four_places 3 3 3 3) c.args.n c.args.c c.args.o c.args.r c.args.area.now
-    c.heard-v0.result c.heard-v1.result c.heard-v2.result c.heard-v3.result = record { asks = c.requires; zeroth = c.heard-v0.ensures; first = c.heard-v1.ensures; second = c.heard-v2.ensures; third = c.heard-v3.ensures } in
-    heard_written (all) (λ i _. i) (in_order 0) (in_order 1) (in_order 2) (in_order 3) c.add_four.ensures
-
-pub shape_of-area : goal.shape_of-area
-shape_of-area c =
-    (returns c).long
+returns g c =
+    let all : Heard (voices_of c.args.v) _ c.args.n c.args.c c.args.o c.args.r c.args.area.now c.heard-v0.result c.heard-v1.result c.heard-v2.result c.heard-v3.result =
+    record { asks = c.requires; zeroth = c.heard-v0.ensures; first = c.heard-v1.ensures; second = c.heard-v2.ensures; third = c.heard-v3.ensures } in
+    heard_written all c.add_four.ensures

@@ -3,8 +3,8 @@ use Prim.Native.Nat.{ℕ}
 use mathlib.Core.Path.{◌≡◌, refl, sym, subst}
 use mathlib.Core.List.{List}
 use lib.IntN.{ℤ}
-use Rattle.told.specs.Told.{numbers_in}
-use Rattle.told.specs.declared.Verdict.{Verdict}
+use Rattle.std.specs.Prelude.{Option}
+use Rattle.told.specs.Told.{Verdict, numbers_in}
 use Rattle.steps.specs.Steps.{count_in, Voter}
 use Rattle.steps.specs.declared.Count.{Count}
 use Rattle.value_readings.specs.AnswerLaws.{none_heard}
@@ -12,7 +12,7 @@ use Rattle.value_readings.specs.Polls.{Heard}
 use Rattle.value_readings.proofs.rounds.answers.hear_answer.Goals as goal
 
 -- what is promised after an answer
-abbrev Promised : (m b : ℕ) (xs ys : List ℤ) (count : Count) → Verdict → Type 0
+abbrev Promised : (m b : ℕ) (xs ys : List ℤ) (count : Option Count) → Verdict → Type 0
 Promised m b xs ys count answer = (count ≡ count_in (numbers_in answer)) × Heard m b answer xs ys
 
 pub share_bits-requires : goal.share_bits-requires
@@ -20,16 +20,16 @@ share_bits-requires c =
     record {
       projects = c.requires.projects;
       sums = c.requires.sums;
-      in_projection = subst (λ (v : Verdict). Voter c.args.m v c.args.area.now) c.in-Accepted.is c.requires.voter;
+      in_projection = subst (λ (v : Verdict). Voter c.args.m v c.args.area.now) c.in-Ok.is c.requires.voter;
     }
 
-pub returns-in-Accepted : goal.returns-in-Accepted
-returns-in-Accepted c =
+pub returns-in-Ok : goal.returns-in-Ok
+returns-in-Ok c =
     let a = c.args in
-    let given = subst (Promised a.m a.b a.area.now _ _) (sym c.in-Accepted.is) (refl, c.share_bits.ensures _ _) in record { counted = given.0; heard = given.1 }
+    let given = subst (Promised a.m a.b a.area.now _ _) (sym c.in-Ok.is) (refl, c.share_bits.ensures _) in record { counted = given.0; heard = given.1 }
 
-pub returns-in-Refused : goal.returns-in-Refused
-returns-in-Refused c =
+pub returns-in-Err : goal.returns-in-Err
+returns-in-Err c =
     let a = c.args in
-    let given = subst (Promised a.m a.b a.area.now _ _) (sym c.in-Refused.is)
-    (c.abstain.ensures 0, none_heard a.m a.b a.area.now _ _ _) in record { counted = given.0; heard = given.1 }
+    let given = subst (Promised a.m a.b a.area.now _ _) (sym c.in-Err.is)
+    (c.abstain.ensures 0, none_heard a.m a.b a.area.now _) in record { counted = given.0; heard = given.1 }

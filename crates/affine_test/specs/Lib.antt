@@ -1,0 +1,3 @@
+-- Definitions: Marks. Laws: MarkLaws.
+pub mod Marks
+pub mod MarkLaws

@@ -1,7 +1,0 @@
--- `text::put_byte` meets its contract. Assumes nothing.
-use Rattle.text.specs.TextLaws.{one_byte}
-use Rattle.text.proofs.put_byte.Goals as goal
-
-pub returns : goal.returns
-returns c =
-    one_byte _ _ _ c.requires
