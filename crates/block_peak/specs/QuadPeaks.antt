@@ -1,5 +1,6 @@
 -- The peak of the values of some quads, from the greatest key and the count of its size. Assumes nothing.
-use Rattle.std.specs.Prelude.{ℕ, zero, suc, ◌+◌, ◌*◌, ◌/◌, ◌%◌, ◌≤◌, ◌<◌, pred, ◌≡◌, refl, true, false, not, ◌&&◌, List, ◌≢◌, ◌⊎◌, eqb, ℤ, nat_abs, Option, None}
+use Rattle.std.specs.Prelude.{ℕ, zero, suc, ◌+◌, ◌*◌, ◌/◌, ◌%◌, ◌≤◌, ◌<◌, pred, ◌≡◌, refl, true, false, not, ◌&&◌, List, ◌≢◌, ◌⊎◌, eqb, ℤ, nat_abs, None, Result}
+use Rattle.std.specs.Result.{result_ok}
 use Rattle.std.proofs.lemmas.Bool.{false≢true}
 use Rattle.std.proofs.Common.{sym, ap, ap₂, ◌∙◌, subst, inl, inr, ⊎_elim, eq-eqb, ne_eqb, lt-ltb, le-ltb}
 use Rattle.std.proofs.Math.Decide.{ℕ_discrete, dec_lt}
@@ -266,8 +267,8 @@ module _ {h top : ℕ} {xs : List ℤ} (s : Sought h xs) (t : Top xs top) where
       | no l ↦ pair_alone places j (one_low (omega arith) e) nx ny
     ]
 
-    -- o is the peak at the pair x, y
-    pub top_peak : lone_test h xs (top / 1024) x y ≡ true → {o : Option Peak} → PeakAt (top % 1024) (top % 1024 + 2) x y o → IsPeak (h + h) (value_at xs) o
-    top_peak e {o} k =
+    -- r is the peak at the pair x, y
+    pub top_peak : lone_test h xs (top / 1024) x y ≡ true → {r : Result Peak Peak} → PeakAt (top % 1024) (top % 1024 + 2) x y r → IsPeak (h + h) (value_at xs) (result_ok r)
+    top_peak e {r} k =
         pair_peak (h + h) (value_at xs) even (only e) (greater_sign places j below)
-        (subst (λ (u : ℕ). PeakAt u (u + 2) (firsts xs j) (lasts xs j) o) t.mask (peak_as ex ey k))
+        (subst (λ (u : ℕ). PeakAt u (u + 2) (firsts xs j) (lasts xs j) r) t.mask (peak_as ex ey k))

@@ -34,5 +34,5 @@ pub fn find_peak(h: usize, quads: &[i32]) -> Option<Peak>
     if !is_alone(quads, h, g, x, y) {
         return None;
     }
-    peaks::peak_at(j, j + 2, x, y)
+    peaks::peak_at(j, j + 2, x, y).ok()
 }

@@ -14,13 +14,16 @@ fn print_found(rt: &impl Print, found: Result<Option<Record>, NoRecord>) -> io::
                 profile,
                 next,
             } = record;
-            print!(rt; "serial {serial}, profile {profile}, next at {next}")
+            print!(rt; "serial {serial}")?;
+            print!(rt; ", profile {profile}")?;
+            print!(rt; ", next at {next}")
         }
         Ok(None) => print!(rt; "none left"),
         Err(missing) => {
             let number = refusals::number(missing.why);
             let serial = missing.serial;
-            print!(rt; "refused {number}, serial {serial}")
+            print!(rt; "refused {number}")?;
+            print!(rt; ", serial {serial}")
         }
     }
 }
@@ -43,7 +46,8 @@ fn read(rt: &impl Print, at: usize, word: &mut [u8]) -> io::Result<()> {
     let found = capture::find_record(&Standard, capture, at, word);
     print_found(rt, found)?;
     let size = word.len();
-    print!(rt; ", word of {size} (")?;
+    print!(rt; ", word of {size}")?;
+    print!(rt; " (")?;
     print_bytes(rt, word)?;
     println!(rt; ")")
 }

@@ -51,5 +51,5 @@ pub fn search(h: usize, part: &mut [i32]) -> Option<Peak>
     }
     let j = (key % 65536) as usize;
     let z = part[j];
-    peaks::peak_at(j, h + j, first_of(z), second_of(z))
+    peaks::peak_at(j, h + j, first_of(z), second_of(z)).ok()
 }

@@ -1,5 +1,6 @@
 -- What the search finds is the peak. Assumes nothing.
-use Rattle.std.specs.Prelude.{ℕ, ◌+◌, ◌%◌, ◌≤◌, ◌<◌, max, ◌≡◌, ◌≢◌, cond, List, ◌⊎◌, ℤ, pos, nat_abs, length, Option, Some, None}
+use Rattle.std.specs.Prelude.{ℕ, ◌+◌, ◌%◌, ◌≤◌, ◌<◌, max, ◌≡◌, ◌≢◌, cond, List, ◌⊎◌, ℤ, pos, nat_abs, length, Some, None, Result, Ok, Err}
+use Rattle.std.specs.Result.{result_ok}
 use Rattle.std.proofs.Common.{sym, ap, ap₂, ◌∙◌, inl, inr, arith, eq-eqb, eqb-true, ne_eqb}
 use Rattle.std.proofs.lemmas.Bool.{false≢true}
 use Rattle.std.proofs.Math.Decide.{ℕ_discrete}
@@ -30,8 +31,8 @@ module _ (n : ℕ) (c : ℕ → ℤ) where
   module _ {a b : ℕ} {x y : ℤ} (even : (nat_abs x ≡ 0) ⊎ (nat_abs y ≡ 0) → Shared n (λ v. nat_abs (c v)))
       (only : nat_abs x ≢ 0 → nat_abs y ≢ 0 → Alone n (λ v. nat_abs (c v)) (cond (alike x y) a b))
       (same_sign : constant_of (c (cond (alike x y) a b)) ≡ constant_of x) where
-    no_pair : PeakAt a b x y None → IsPeak n c None
-    no_pair k = elim (ℕ_discrete (nat_abs x) 0) [
+    no_pair : (p : Peak) → PeakAt a b x y (Err p) → IsPeak n c None
+    no_pair p k = elim (ℕ_discrete (nat_abs x) 0) [
       | yes e ↦ no_peak (even (inl e))
       | no nx ↦ elim (ℕ_discrete (nat_abs y) 0) [
         | yes e ↦ no_peak (even (inr e))
@@ -39,18 +40,18 @@ module _ (n : ℕ) (c : ℕ → ℤ) where
       ]
     ]
 
-    one_pair : (p : Peak) → PeakAt a b x y (Some p) → IsPeak n c (Some p)
+    one_pair : (p : Peak) → PeakAt a b x y (Ok p) → IsPeak n c (Some p)
     one_pair p k =
         one_peak
         (only (λ e. false≢true (sym (k.first e))) (λ e. false≢true (sym (k.second e))))
         k.mask (k.constant ∙ ap pos (sym same_sign))
 
-    pair_either : (o : Option Peak) → PeakAt a b x y o → IsPeak n c o
-    pair_either None k = no_pair k
-    pair_either (Some p) k = one_pair p k
+    pair_either : (r : Result Peak Peak) → PeakAt a b x y r → IsPeak n c (result_ok r)
+    pair_either (Err p) k = no_pair p k
+    pair_either (Ok p) k = one_pair p k
 
-    pub pair_peak : {o : Option Peak} → PeakAt a b x y o → IsPeak n c o
-    pair_peak {o} k = pair_either o k
+    pub pair_peak : {r : Result Peak Peak} → PeakAt a b x y r → IsPeak n c (result_ok r)
+    pair_peak {r} k = pair_either r k
 
 -- the peak's mask has the greatest absolute value
 module _ {n : ℕ} {c : ℕ → ℤ} {p : Peak} (k : IsPeak n c (Some p)) where
@@ -78,8 +79,8 @@ module _ {h : ℕ} {x y : ℕ → ℤ} {key : ℕ} (t : Searched h x y key) wher
     pub searched_place : key % 65536 < h
     searched_place = searched_one.below
 
-    module _ {o : Option Peak}
-        (k : PeakAt (key % 65536) (h + key % 65536) (x (key % 65536)) (y (key % 65536)) o) where
+    module _ {r : Result Peak Peak}
+        (k : PeakAt (key % 65536) (h + key % 65536) (x (key % 65536)) (y (key % 65536)) r) where
       abbrev j : ℕ
       j = key % 65536
 
@@ -89,7 +90,7 @@ module _ {h : ℕ} {x y : ℕ → ℤ} {key : ℕ} (t : Searched h x y key) wher
       even : (nat_abs (x j) ≡ 0) ⊎ (nat_abs (y j) ≡ 0) → Shared (h + h) (λ v. nat_abs (joined h x y v))
       even = pair_even places j searched_place (λ i m. omega (arith, greatest_bound (sizes x y) h i m, alone_greatest searched_one))
 
-      pub searched_peak : IsPeak (h + h) (joined h x y) o
+      pub searched_peak : IsPeak (h + h) (joined h x y) (result_ok r)
       searched_peak = pair_peak (h + h) (joined h x y) even (pair_alone places j searched_one) (greater_sign places j searched_place) k
 
 -- ---- the sizes in a list

@@ -1,5 +1,5 @@
 -- Numbers packed in one, the sizes of pairs, and the peak of some values. Assumes nothing.
-use Rattle.std.specs.Prelude.{ℕ, ◌+◌, ◌-◌, ◌^◌, ◌≤◌, ◌<◌, ◌≡◌, Bool, true, false, cond, List, ◌≢◌, eqb, ltb, ℤ, pos, nat_abs, ◌+ℤ◌, ◌-ℤ◌, ◌*ℤ◌, length, Option, IfSome}
+use Rattle.std.specs.Prelude.{ℕ, ◌+◌, ◌-◌, ◌^◌, ◌≤◌, ◌<◌, ◌≡◌, Bool, true, false, cond, List, ◌≢◌, eqb, ltb, ℤ, pos, nat_abs, ◌+ℤ◌, ◌-ℤ◌, ◌*ℤ◌, length, Option, IfSome, Result, Ok, Err, is_ok}
 use Rattle.std.specs.Option.{is_some}
 use Rattle.words.specs.Sum.{greatest_below, sum_below}
 use Rattle.area.specs.Area.{at}
@@ -66,10 +66,15 @@ pub record IsPeak (n : ℕ) (c : ℕ → ℤ) (o : Option Peak) : Type 0 where
 abbrev pub alike : ℤ → ℤ → Bool
 alike x y = eqb (constant_of x) (constant_of y)
 
+-- the peak, alone (Ok) or not (Err)
+abbrev pub either : Result Peak Peak → Peak
+either (Ok p) = p
+either (Err p) = p
+
 -- the peak that the pair x, y gives, by the masks of its sum and its difference
-pub record PeakAt (sum difference : ℕ) (x y : ℤ) (o : Option Peak) : Type 0 where
-  pub alone : nat_abs x ≢ 0 → nat_abs y ≢ 0 → is_some o ≡ true
-  pub first : nat_abs x ≡ 0 → is_some o ≡ false
-  pub second : nat_abs y ≡ 0 → is_some o ≡ false
-  pub mask : IfSome o (λ p. p.mask ≡ cond (alike x y) sum difference)
-  pub constant : IfSome o (λ p. p.constant ≡ pos (constant_of x))
+pub record PeakAt (sum difference : ℕ) (x y : ℤ) (r : Result Peak Peak) : Type 0 where
+  pub alone : nat_abs x ≢ 0 → nat_abs y ≢ 0 → is_ok r ≡ true
+  pub first : nat_abs x ≡ 0 → is_ok r ≡ false
+  pub second : nat_abs y ≡ 0 → is_ok r ≡ false
+  pub mask : (either r).mask ≡ cond (alike x y) sum difference
+  pub constant : (either r).constant ≡ pos (constant_of x)

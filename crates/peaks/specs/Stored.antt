@@ -1,5 +1,5 @@
 -- Numbers in 32 signed bits, as a search reads them. Assumes nothing.
-use Rattle.std.specs.Prelude.{ℕ, ◌+◌, ◌^◌, ◌≤◌, ◌<◌, ◌≡◌, T, eqb, ℤ, pos, negsuc, neg_ℤ, nat_abs, ◌+ℤ◌, ◌-ℤ◌, Option}
+use Rattle.std.specs.Prelude.{ℕ, ◌+◌, ◌^◌, ◌≤◌, ◌<◌, ◌≡◌, T, eqb, ℤ, pos, negsuc, neg_ℤ, nat_abs, ◌+ℤ◌, ◌-ℤ◌, Result}
 use Rattle.std.proofs.Common.{sym, ap, ◌∙◌, arith, Fits, SFits, to_z, of_z, to_z-of_z, eq-eqb, ne_eqb}
 use Rattle.std.proofs.Math.Decide.{ℕ_discrete}
 use Rattle.std.specs.Int.Signed.{mag, non_neg}
@@ -69,5 +69,5 @@ module _ {g : ℤ} {n : ℕ} (e : g ≡ pos n) (l : mag g < 2 ^ 31) where
   pub size_whole : stored g ≡ pos (nat_abs (stored g))
   size_whole = size_read ∙ ap (λ (z : ℤ). pos (nat_abs z)) (sym size_read)
 
-pub peak_as : {a b : ℕ} {x x' y y' : ℤ} {o : Option Peak} → x ≡ x' → y ≡ y' → PeakAt a b x y o → PeakAt a b x' y' o
+pub peak_as : {a b : ℕ} {x x' y y' : ℤ} {r : Result Peak Peak} → x ≡ x' → y ≡ y' → PeakAt a b x y r → PeakAt a b x' y' r
 peak_as ex ey k = rw (← ex, ← ey) k

@@ -70,17 +70,18 @@ pub fn keys(sizes: &[i32], g: i32) -> u32
     sum
 }
 
-// The peak at the pair x, y: the mask of the sum where their signs are alike, and of the difference where they are not; where one of them
-// is 0 both have it, and there is no peak.
-pub fn peak_at(sum: usize, difference: usize, x: i32, y: i32) -> Option<Peak>
+// The peak at the pair x, y: the mask of the sum where their signs are alike, and of the difference where they are not; Err where one of
+// them is 0, since both have it then.
+pub fn peak_at(sum: usize, difference: usize, x: i32, y: i32) -> Result<Peak, Peak>
     ensures { PeakAt sum difference x y result }
 {
-    let tied = (x == 0) | (y == 0);
-    if tied {
-        return None;
-    }
     let constant = i32::from(x < 0);
     let other = i32::from(y < 0);
     let mask = if constant == other { sum } else { difference };
-    Some(Peak { mask, constant })
+    let peak = Peak { mask, constant };
+    let tied = (x == 0) | (y == 0);
+    if tied {
+        return Err(peak);
+    }
+    Ok(peak)
 }

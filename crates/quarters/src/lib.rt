@@ -26,5 +26,5 @@ pub fn search(q: usize, part: &mut [i32]) -> Option<Peak>
     let j = (key % 65536) as usize;
     let low = j & (q - 1);
     let p = quads::pair_at(j, low, part[low]);
-    peaks::peak_at(j, h + j, p.x, p.y)
+    peaks::peak_at(j, h + j, p.x, p.y).ok()
 }

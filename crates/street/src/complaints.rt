@@ -20,7 +20,8 @@ fn fault(why: Bad) -> &'static str {
 pub fn argument(rt: &impl Eprint, bad: BadArgument) {
     let number = bad.number;
     let fault = fault(bad.why);
-    let _ = eprintln!(rt; "street: argument {number} is {fault}");
+    let _ = eprint!(rt; "street: argument {number}");
+    let _ = eprintln!(rt; " is {fault}");
     usage(rt);
 }
 

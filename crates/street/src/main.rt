@@ -19,8 +19,8 @@ fn summarise<W: Write>(to: &mut Stream<W>, counts: Counts) {
 // Walks the street and prints the summary, or says why the settings are refused.
 fn run<W: Write>(rt: &impl Eprint, to: &mut Stream<W>, s: Settings) {
     match walks::walk_street(s, to) {
-        Ok(counts) => summarise(to, counts),
-        Err(why) => complaints::refused(rt, why),
+        Ok(walk) => summarise(to, walk.counts),
+        Err(stopped) => complaints::refused(rt, stopped.why),
     }
 }
 

@@ -9,7 +9,7 @@ use Rattle.std.proofs.lemmas.Slice.Eq.{bytes_eq-Decides}
 use Rattle.std.specs.List.{position}
 use Rattle.std.proofs.lemmas.List.Sums.{position_or_len_is}
 use Rattle.words.specs.Sum.{first_where}
-use Rattle.words.specs.Search.{First, where_first}
+use Rattle.words.specs.Search.{First, where_first, first_where_lem}
 use Rattle.std.proofs.lemmas.Bool.{false≢true}
 use Rattle.words.specs.SumLaws.{all_true, le_or_lt, true_all}
 use Rattle.refusals.specs.declared.Refusal.TheVariants.{UnknownName, NamesFull}
@@ -49,13 +49,13 @@ module _ (s : Store) (size : length s.places ≡ 16) where
       let e = position_or_len_is q s.places (first_where 16 (λ i. q (place_at s i))) None (omega (arith, f.within)) f.before (λ l. f.found (omega arith)) in
       rw (e, size)
 
-  pub held_at : (n : Name) → position (holding n) s.places ≡ found (where_held s n)
+  pub held_found : (n : Name) → position (holding n) s.places ≡ found (where_held s n)
   unfolding where_held
-  held_at n = searched (holding n)
+  held_found n = searched (holding n)
 
-  pub free_at : position (λ p. not (used_in p)) s.places ≡ found (free_place s)
+  pub free_found : position (λ p. not (used_in p)) s.places ≡ found (free_place s)
   unfolding free_place
-  free_at = searched (λ p. not (used_in p))
+  free_found = searched (λ p. not (used_in p))
 
 none_some : {A : Type 0} {x : A} → ◌≡◌ {A = std.Option A} None (Some x) → ⊥
 none_some e = false≢true (ap is_some e)
@@ -81,6 +81,14 @@ module _ (s : Store) (n : Name) where
   tally_some {at} e l {p} h = rw (← e, lt-ltb at 16 l, h)
 
 module _ (s : Store) where
+  pub held_at : (n : Name) {i : ℕ} → First 16 (holds s n) i → i ≡ where_held s n
+  unfolding where_held
+  held_at n h = first_where_lem h
+
+  pub free_at : {i : ℕ} → First 16 (λ j. not (used_in (place_at s j))) i → i ≡ free_place s
+  unfolding free_place
+  free_at h = first_where_lem h
+
   pub held_first : (n : Name) → First 16 (holds s n) (where_held s n)
   unfolding where_held
   held_first n = where_first 16 (holds s n)

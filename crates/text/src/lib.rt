@@ -58,9 +58,12 @@ impl Writer<'_> {
         requires { self.old.at + length (decimal n) ≤ length self.old.out.now }
         ensures { Added (decimal n) self.old self.new }
     {
-        if 9 < n {
-            self.put_decimal(n / 10);
+        // Most numbers in a line have one digit.
+        if n < 10 {
+            self.put_byte(48 + n as u8);
+            return;
         }
+        self.put_decimal(n / 10);
         self.put_byte(48 + (n % 10) as u8);
     }
 }

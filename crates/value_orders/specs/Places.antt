@@ -1,5 +1,6 @@
 -- The greatest size of h pairs, with its last and its first place, by two keys: where the places agree it is met there alone. Assumes nothing.
-use Rattle.std.specs.Prelude.{ℕ, zero, suc, ◌+◌, ◌-◌, ◌*◌, ◌%◌, ◌≤◌, ◌<◌, ◌≡◌, ◌≢◌, ℤ, Option, None}
+use Rattle.std.specs.Prelude.{ℕ, zero, suc, ◌+◌, ◌-◌, ◌*◌, ◌%◌, ◌≤◌, ◌<◌, ◌≡◌, ◌≢◌, ℤ, None, Result}
+use Rattle.std.specs.Result.{result_ok}
 use Rattle.std.proofs.Common.{sym, ap, ◌∙◌, subst, not-suc-le-zero, arith}
 use Rattle.words.specs.Sum.{greatest_below}
 use Rattle.hadamard.specs.Peak.{Alone, Shared, greatest_bound, greatest_met}
@@ -80,8 +81,8 @@ module _ {h : ℕ} (x y : ℕ → ℤ) (some : 0 < h) (few : h ≤ 512) where
   places_apart ne = no_peak (h + h) (joined h x y) (pairs_share (joined_layout h x y) (two_places h (sizes x y) some few ne))
 
   pub places_meet :
-      {j : ℕ} {o : Option Peak} → j ≡ last_place h (sizes x y) → first_place h (sizes x y) ≡ j → PeakAt j (h + j) (x j) (y j) o
-      → IsPeak (h + h) (joined h x y) o
+      {j : ℕ} {r : Result Peak Peak} → j ≡ last_place h (sizes x y) → first_place h (sizes x y) ≡ j → PeakAt j (h + j) (x j) (y j) r
+      → IsPeak (h + h) (joined h x y) (result_ok r)
   places_meet {j} ej e k = searched_peak found (omega (arith, few, a.below)) (rw back k)
     where
       a : Alone h (sizes x y) j

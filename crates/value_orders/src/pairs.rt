@@ -50,5 +50,5 @@ pub fn search(h: usize, part: &[i32]) -> Option<Peak>
     }
     let x = part[j];
     let y = part[h + j];
-    peaks::peak_at(j, h + j, x, y)
+    peaks::peak_at(j, h + j, x, y).ok()
 }

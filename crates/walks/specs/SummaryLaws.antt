@@ -10,6 +10,7 @@ use Rattle.street_report.specs.Report.{counts_of}
 use Rattle.street_report.specs.declared.Counts.{Counts}
 use Rattle.walks.specs.EveryMeter.{every_meter}
 use Rattle.walks.specs.Walk.{Walked, refusal}
+use Rattle.walks.specs.declared.Walk.{Walk}
 
 pub record Adds (plan : Plan) (c : Counts) : Type 0 where
   -- "blocks sent are those accepted right, accepted as another codeword, and refused"
@@ -17,14 +18,14 @@ pub record Adds (plan : Plan) (c : Counts) : Type 0 where
   pub meters : c.right + c.other + c.never ≡ plan.meters
 
 module _ (slot : Slot) (plan : Plan) (start : ℕ) where
-  pub summary_adds : (c : Counts) → Walked slot plan start (Ok c) → Adds plan c
-  summary_adds c (fine, k) =
+  pub summary_adds : (w : Walk) → Walked slot plan start (Ok w) → Adds plan w.counts
+  summary_adds w (fine, k) =
       let t = settled slot plan start fine in
       let l : List Step = steps_after slot plan start 4096 in
       let most : suc plan.retries * plan.meters ≤ 4096 = omega (arith, mul-le-mul_right {m = suc plan.retries} {n = 16} plan.meters (omega (arith, t.turns)), t.few) in
       let few : length l ≤ 4096 = omega (arith, most, steps_most slot plan start t.few 4096) in
       let all = every_meter slot plan start t.few 4096 (ends slot plan start t.few 4096 most) in
-      let e : c ≡ counts_of plan.retries l =
+      let e : w.counts ≡ counts_of plan.retries l =
       k ∙ ap (λ (b : Bool). counts_of plan.retries (cond b l [])) (eq-eqb (refusal slot plan start) 0 fine) in
       let s = ap (λ (c : Counts). c.sent) e in
       let r = ap (λ (c : Counts). c.right) e in

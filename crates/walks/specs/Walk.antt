@@ -9,7 +9,7 @@ use Rattle.streets.specs.State.{Showing, shows_none, refused, setting_checks, st
 use Rattle.streets.specs.declared.Plan.{Plan}
 use Rattle.street_settings.specs.declared.Settings.{Settings}
 use Rattle.street_report.specs.Report.{counts_of, plus_step, step_line}
-use Rattle.street_report.specs.declared.Counts.{Counts}
+use Rattle.walks.specs.declared.Stopped.{Stopped}
 use Rattle.walks.specs.declared.Walk.{Walk}
 
 -- the street's settings among the program's
@@ -45,12 +45,12 @@ module _ (slot : Slot) (plan : Plan) (start : ℕ) where
   steps_made = cond (eqb refusal 0) (steps_after slot plan start 4096) []
 
   -- a walk from the start ends with no meter left, unless the settings are refused before the first step; its counts are those of the steps
-  abbrev pub Walked : Result Counts Refusal → Type 0
-  Walked (Ok c) = (refusal ≡ 0) × (c ≡ counts_of plan.retries steps_made)
-  Walked (Err why) = (refusal ≢ 0) × (number_of why ≡ refusal)
+  abbrev pub Walked : Result Walk Stopped → Type 0
+  Walked (Ok w) = (refusal ≡ 0) × (w.counts ≡ counts_of plan.retries steps_made)
+  Walked (Err e) = (refusal ≢ 0) × (number_of e.why ≡ refusal) × (e.walk.counts ≡ counts_of plan.retries steps_made)
 
   -- the same of the loop that makes it, whose turns suffice
-  abbrev pub Ended : Result (Option Counts) Refusal → Type 0
-  Ended (Ok (Some c)) = Walked (Ok c)
+  abbrev pub Ended : Result (Option Walk) Stopped → Type 0
+  Ended (Ok (Some w)) = Walked (Ok w)
   Ended (Ok None) = ⊥
-  Ended (Err why) = Walked (Err why)
+  Ended (Err e) = Walked (Err e)

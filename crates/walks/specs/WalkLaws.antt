@@ -20,7 +20,7 @@ use Rattle.streets.specs.declared.Street.{Street}
 use Rattle.street_report.specs.Report.{counts_of, no_counts, plus_step}
 use Rattle.street_report.specs.ReportLaws.{counts_more, counts_none}
 use Rattle.street_report.specs.declared.Counts.{Counts}
-use Rattle.walks.specs.Walk.{Lent, Onward, Walked, refusal}
+use Rattle.walks.specs.Walk.{Lent, Onward, Walked, refusal, steps_made}
 use Rattle.walks.specs.declared.Walk.{Walk}
 
 -- ---- settings that pass at the start pass at every later state of the load
@@ -71,8 +71,8 @@ module _ (slot : Slot) (plan : Plan) (start : ℕ) where
   -- what one more step comes to: another, or the walk has ended
   abbrev pub Next : ℕ → Walk → Result (Option Walk) Refusal → Type 0
   Next n w (Ok (Some more)) = Walking (suc n) more
-  Next n w (Ok None) = Walked slot plan start (Ok w.counts)
-  Next n w (Err why) = Walked slot plan start (Err why)
+  Next n w (Ok None) = Walked slot plan start (Ok w)
+  Next n w (Err why) = Walked slot plan start (Err record { why = why; walk = w })
 
   first_none : steps 0 ≡ []
   unfolding steps_after
@@ -152,16 +152,17 @@ module _ (slot : Slot) (plan : Plan) (start : ℕ) where
             by_sender (sender_after plan (steps n)) refl (subst X (ap (λ (v : Street). shows slot plan v room area) k.street ∙ shown n) s)
 
     -- settings that are refused are so before the first step
-    stops : (w : Walk) (r : Result (Option Walk) Refusal) → refusal slot plan start ≢ 0 → IsErrAnd r (λ why. number_of why ≡ refusal slot plan start) → Next 0 w r
-    stops w (Ok _) bad s = elim s [ ]
-    stops w (Err why) bad s = (bad, s)
+    stops : (w : Walk) (r : Result (Option Walk) Refusal) → refusal slot plan start ≢ 0 → w.counts ≡ counts_of plan.retries (steps_made slot plan start) → IsErrAnd r (λ why. number_of why ≡ refusal slot plan start) → Next 0 w r
+    stops w (Ok _) bad c s = elim s [ ]
+    stops w (Err why) bad c s = (bad, s, c)
 
     refuses : (n : ℕ) (w : Walk) (r : Result (Option Walk) Refusal) → refusal slot plan start ≢ 0 → Walking n w → Onward slot plan w r (shows slot plan w.street room area) → Next n w r
     refuses zero w r bad k s =
         let x : shows slot plan w.street room area ≡ refused (refusal slot plan start) =
         ap (λ (v : Street). shows slot plan v room area) (k.street ∙ first_street)
         ∙ sym (settings_refuse slot plan (begins start) room area refl (omega arith)) in
-        stops w r bad (subst (Onward slot plan w r) x s)
+        let c = k.counts ∙ ap (counts_of plan.retries) (first_none ∙ sym (ap (λ (b : Bool). cond b (steps 4096) []) (ne_eqb (refusal slot plan start) 0 bad))) in
+        stops w r bad c (subst (Onward slot plan w r) x s)
     refuses (suc n) w r bad k s = absurd (bad (k.passed (omega arith)))
 
     pub walks_on : (n : ℕ) (w : Walk) {r r' : Result (Option Walk) Refusal} → r ≡ r' → n ≤ 4096 → Walking n w → Onward slot plan w r (shows slot plan w.street room area) → Next n w r'

@@ -18,9 +18,16 @@ use turns::{Stream, sent};
 
 // The street, and what was counted on the way.
 #[derive(Clone, Copy)]
-struct Walk {
-    street: Street,
-    counts: Counts,
+pub struct Walk {
+    pub street: Street,
+    pub counts: Counts,
+}
+
+// Why the settings are refused, and the walk before its first step.
+#[derive(Clone, Copy)]
+pub struct Stopped {
+    pub why: Refusal,
+    pub walk: Walk,
 }
 
 // Prints the line of a step.
@@ -77,7 +84,7 @@ fn walk_in<W: Write>(
     to: &mut Stream<W>,
     block: &mut [u8],
     area: &mut [i32],
-) -> Result<Option<Counts>, Refusal>
+) -> Result<Option<Walk>, Stopped>
     requires { Lent (slot_of ours s.profile) (length block.old) (length area.old) }
     ensures { Ended (slot_of ours s.profile) (plan_of s) s.start result }
 {
@@ -86,9 +93,10 @@ fn walk_in<W: Write>(
         counts: street_report::no_counts(),
     };
     for _ in 0..4097usize {
-        match step(s, w, to, block, area)? {
-            Some(more) => w = more,
-            None => return Ok(Some(w.counts)),
+        match step(s, w, to, block, area) {
+            Ok(Some(more)) => w = more,
+            Ok(None) => return Ok(Some(w)),
+            Err(why) => return Err(Stopped { why, walk: w }),
         }
     }
     Ok(None)
@@ -104,13 +112,13 @@ fn places(profile: usize) -> usize
     }
 }
 
-// What a walk counts, with buffers of its own, or why the settings are refused.
-pub fn walk_street<W: Write>(s: Settings, to: &mut Stream<W>) -> Result<Counts, Refusal>
+// A walk with buffers of its own, to its end unless the settings are refused.
+pub fn walk_street<W: Write>(s: Settings, to: &mut Stream<W>) -> Result<Walk, Stopped>
     ensures { Walked (slot_of ours s.profile) (plan_of s) s.start result }
 {
     let n = places(s.profile);
     let mut block = [0u8; 1024];
     let mut area = [0i32; 8192];
-    let counts = walk_in(s, to, &mut block[..n], &mut area)?;
-    Ok(counts.unwrap())
+    let walk = walk_in(s, to, &mut block[..n], &mut area)?;
+    Ok(walk.unwrap())
 }

@@ -62,4 +62,4 @@ returns c =
     let read = quad_read c.requires c.greatest_key-top.type_inv c.greatest_key-top.ensures in
     let first : stored c.pair_at-pair.result.x ≡ firsts xs t.pair = number_read (c.pair_at-pair.ensures.0 ∙ top_first t read) (omega (arith, quad_sizes_small xs t.pair)) in
     let last : stored c.pair_at-pair.result.y ≡ lasts xs t.pair = number_read (c.pair_at-pair.ensures.1 ∙ top_last t read) (omega (arith, quad_sizes_small xs t.pair)) in
-    top_peak c.requires t first last (sym c.is_alone.ensures ∙ c.if-not-is_alone.false) c.peak_at.ensures
+    rw c.ok.ensures.value (top_peak c.requires t first last (sym c.is_alone.ensures ∙ c.if-not-is_alone.false) c.peak_at.ensures)

@@ -72,5 +72,6 @@ returns c =
     let read = pair_read c.requires c.pair_sizes.ensures c.greatest-g.ensures c.greatest-g.type_inv c.keys-key.ensures c.if-key-gt131071.false in
     let first = as_it_is c.first_of.type_inv ∙ c.first_of.ensures ∙ ap first_in read in
     let second = as_it_is c.second_of.type_inv ∙ c.second_of.ensures ∙ ap second_of read in
-    searched_peak (told c.requires c.pair_sizes.ensures c.greatest-g.ensures c.greatest-g.type_inv c.keys-key.ensures) c.if-key-gt131071.false
-    (peak_as first second c.peak_at.ensures)
+    rw c.ok.ensures.value
+    (searched_peak (told c.requires c.pair_sizes.ensures c.greatest-g.ensures c.greatest-g.type_inv c.keys-key.ensures) c.if-key-gt131071.false
+    (peak_as first second c.peak_at.ensures))

@@ -1,5 +1,5 @@
 -- The pair's numbers as the code reads them: its tests of their signs, and for 0.
-use Rattle.std.specs.Prelude.{◌≡◌, ◌≢◌, refl, Bool, true, false, ◌||◌, eqb, ℤ, pos, nat_abs}
+use Rattle.std.specs.Prelude.{ℕ, ◌≡◌, ◌≢◌, refl, Bool, true, false, cond, ◌||◌, eqb, ℤ, pos, nat_abs}
 use Rattle.std.proofs.Common.{sym, ap, ◌∙◌, SFits, of_z, to_z-of_z, eq-eqb, ne_eqb}
 use Rattle.std.proofs.lemmas.Bool.{false≢true}
 use Rattle.std.specs.Int.Signed.{lt_z}
@@ -9,7 +9,9 @@ use Rattle.area.specs.Numbers.{stored}
 use Rattle.hadamard.specs.Correlation.{constant_of}
 use Rattle.hadamard.specs.CorrelationLaws.{constant_of_negative, constant_of_other}
 use Rattle.peaks.specs.Stored.{as_it_is, zero_read}
+use Rattle.peaks.specs.Peaks.{alike}
 use Rattle.peaks.proofs.peak_at.Goals as goal
+use Rattle.peaks.proofs.peak_at.Goals.{then-constant-other, else-constant-other}
 
 -- ---- the sign of one number, which the code has as r
 module _ {x r : ℤ} (f : SFits w32 x) (e : r ≡ pos (bool_byte (lt_z (stored x) (pos 0)))) where
@@ -35,35 +37,41 @@ module _ {x y : ℤ} (f : SFits w32 x) (g : SFits w32 y) (e : (eqb (of_z w32 x) 
   second_some : nat_abs y ≢ 0
   second_some z = false≢true (sym (both_false _ _ e).1 ∙ zero_read g ∙ eq-eqb (nat_abs y) 0 z)
 
+-- the mask that the code takes, by the two constants that it reads
+module _ {x y r s : ℤ} (f : SFits w32 x) (g : SFits w32 y) (e : r ≡ pos (bool_byte (lt_z (stored x) (pos 0)))) (h : s ≡ pos (bool_byte (lt_z (stored y) (pos 0)))) (a b : ℕ) where
+  alike_mask : of_z w32 r ≡ of_z w32 s → a ≡ cond (alike x y) a b
+  alike_mask same = rw (eq-eqb (constant_of x) (constant_of y) (sym (sign_word f e) ∙ same ∙ sign_word g h)) refl
+
+  unlike_mask : of_z w32 r ≢ of_z w32 s → b ≡ cond (alike x y) a b
+  unlike_mask other = rw (ne_eqb (constant_of x) (constant_of y) (λ q. other (sign_word f e ∙ q ∙ sym (sign_word g h)))) refl
+
 -- ---- the needs
 pub returns-then-tied : goal.returns-then-tied
-returns-then-tied c = record {
-  alone = λ nx ny. rw (zero_read c.ranges.x ∙ ne_eqb (nat_abs c.args.x) 0 nx, zero_read c.ranges.y ∙ ne_eqb (nat_abs c.args.y) 0 ny) at c.if-tied.true;
-  first = λ e. refl;
-  second = λ e. refl;
-  mask = tt;
-  constant = tt;
-}
-
-pub returns-then-constant-other : goal.returns-then-constant-other
-returns-then-constant-other c =
-    let alike = sym (sign_word c.ranges.x c.from-constant.ensures) ∙ c.if-constant-other.true ∙ sign_word c.ranges.y c.from-other.ensures in
+returns-then-tied c =
+    let a = c.args in
+    let mask_is : c.if-constant-other.mask ≡ cond (alike a.x a.y) a.sum a.difference = elim c.if-constant-other.branch [
+      | then-constant-other w ↦ w.mask-is ∙ alike_mask c.ranges.x c.ranges.y c.from-constant.ensures c.from-other.ensures a.sum a.difference w.if-constant-other.true
+      | else-constant-other w ↦ w.mask-is ∙ unlike_mask c.ranges.x c.ranges.y c.from-constant.ensures c.from-other.ensures a.sum a.difference w.if-constant-other.false
+    ] in
     record {
-      alone = λ nx ny. refl;
-      first = λ e. absurd (first_some c.ranges.x c.ranges.y c.if-tied.false e);
-      second = λ e. absurd (second_some c.ranges.x c.ranges.y c.if-tied.false e);
-      mask = rw (eq-eqb (constant_of c.args.x) (constant_of c.args.y) alike) refl;
+      alone = λ nx ny. rw (zero_read c.ranges.x ∙ ne_eqb (nat_abs c.args.x) 0 nx, zero_read c.ranges.y ∙ ne_eqb (nat_abs c.args.y) 0 ny) at c.if-tied.true;
+      first = λ e. refl;
+      second = λ e. refl;
+      mask = mask_is;
       constant = as_it_is {z = c.from-constant.result} c.from-constant.type_inv ∙ sign_read c.ranges.x c.from-constant.ensures;
     }
 
-pub returns-else-constant-other : goal.returns-else-constant-other
-returns-else-constant-other c =
-    let unlike : constant_of c.args.x ≢ constant_of c.args.y = λ e.
-    c.if-constant-other.false (sign_word c.ranges.x c.from-constant.ensures ∙ e ∙ sym (sign_word c.ranges.y c.from-other.ensures)) in
+pub returns : goal.returns
+returns c =
+    let a = c.args in
+    let mask_is : c.if-constant-other.mask ≡ cond (alike a.x a.y) a.sum a.difference = elim c.if-constant-other.branch [
+      | then-constant-other w ↦ w.mask-is ∙ alike_mask c.ranges.x c.ranges.y c.from-constant.ensures c.from-other.ensures a.sum a.difference w.if-constant-other.true
+      | else-constant-other w ↦ w.mask-is ∙ unlike_mask c.ranges.x c.ranges.y c.from-constant.ensures c.from-other.ensures a.sum a.difference w.if-constant-other.false
+    ] in
     record {
       alone = λ nx ny. refl;
       first = λ e. absurd (first_some c.ranges.x c.ranges.y c.if-tied.false e);
       second = λ e. absurd (second_some c.ranges.x c.ranges.y c.if-tied.false e);
-      mask = rw (ne_eqb (constant_of c.args.x) (constant_of c.args.y) unlike) refl;
+      mask = mask_is;
       constant = as_it_is {z = c.from-constant.result} c.from-constant.type_inv ∙ sign_read c.ranges.x c.from-constant.ensures;
     }

@@ -123,4 +123,4 @@ returns c =
     let read = quad_is c.requires c.sizes.ensures j in
     let first : stored c.pair_at-p.result.x ≡ firsts c.args.q c.args.part.now j = number_read (c.pair_at-p.ensures.0 ∙ first_at c.requires j l read) (omega (arith, small)) in
     let last : stored c.pair_at-p.result.y ≡ lasts c.args.q c.args.part.now j = number_read (c.pair_at-p.ensures.1 ∙ last_at c.requires j l read) (omega (arith, small)) in
-    searched_peak t c.if-key-gt131071.false (peak_as first last c.peak_at.ensures)
+    rw c.ok.ensures.value (searched_peak t c.if-key-gt131071.false (peak_as first last c.peak_at.ensures))

@@ -1,13 +1,13 @@
 -- `tallies::drop_name` meets its contract. Assumes nothing.
 use Rattle.std.proofs.Common.{arith, refl, sym, ◌∙◌}
-use Rattle.tallies.specs.StoreLaws.{drops, found_none, found_some, held_at, not_dropped}
+use Rattle.tallies.specs.StoreLaws.{drops, found_none, found_some, held_found, not_dropped}
 use Rattle.tallies.proofs.drop_name.Goals as goal
 
 pub returns-in-Some : goal.returns-in-Some
 returns-in-Some c =
-    let f = found_some _ (sym (held_at c.args.store (omega arith) c.args.name) ∙ sym c.find.ensures ∙ c.in-Some.is) in
+    let f = found_some _ (sym (held_found c.args.store (omega arith) c.args.name) ∙ sym c.find.ensures ∙ c.in-Some.is) in
     c.done.ensures ∙ rw c.put.ensures (drops c.args.store c.args.name c.args.tally f.0 f.1)
 
 pub returns-in-None : goal.returns-in-None
 returns-in-None c =
-    c.refused.ensures ∙ not_dropped c.args.store c.args.name c.args.tally refl (found_none _ (sym (held_at c.args.store (omega arith) c.args.name) ∙ sym c.find.ensures ∙ c.in-None.is))
+    c.refused.ensures ∙ not_dropped c.args.store c.args.name c.args.tally refl (found_none _ (sym (held_found c.args.store (omega arith) c.args.name) ∙ sym c.find.ensures ∙ c.in-None.is))

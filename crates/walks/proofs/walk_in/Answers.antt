@@ -1,6 +1,5 @@
 -- `walks::walk_in` meets its contract: each turn of the loop is a step of the walk. Assumes nothing.
 use Rattle.std.proofs.Common.{ℕ, Ok, add-one, ◌^◌, ◌<◌, ◌∙◌, ap, arith, length, subst}
-use Rattle.std.proofs.lemmas.Result.{err_from_is_err_and}
 use Rattle.tables.specs.Tables.{Slot, ours, slot_of}
 use Rattle.streets.specs.declared.Plan.{Plan}
 use Rattle.walks.specs.Walk.{Lent, plan_of}
@@ -10,16 +9,6 @@ use Rattle.walks.proofs.walk_in.Goals as goal
 pub loop-init : goal.loop-init
 loop-init g c = record { few = omega arith; walking = starts _ _ _ _ c.begin.ensures c.no_counts.ensures }
 
-pub returns-in_err-more : goal.returns-in_err-more
-returns-in_err-more g c =
-    let slot : Slot = slot_of ours c.args.s.profile in
-    let plan : Plan = plan_of c.args.s in
-    let l = c.loop in
-    let lent : Lent slot (length l.block) (length l.area) = record { size = l.auto.block ∙ c.requires.size; most = omega (arith, l.auto.area, c.requires.most) } in
-    let small : c.args.s.start < 2 ^ 32 = omega arith in
-    let p = err_from_is_err_and c.from_residual.result c.from_residual.ensures.1 in
-    rw (p.1, p.2) (walks_on slot plan c.args.s.start lent small l.counter l.w c.in_err-more.was (omega arith) l.invariant.walking c.step.ensures.onward)
-
 pub loop-preserved : goal.loop-preserved
 loop-preserved g c =
     let slot : Slot = slot_of ours c.args.s.profile in
@@ -27,17 +16,26 @@ loop-preserved g c =
     let l = c.loop in
     let lent : Lent slot (length l.block) (length l.area) = record { size = l.auto.block ∙ c.requires.size; most = omega (arith, l.auto.area, c.requires.most) } in
     let small : c.args.s.start < 2 ^ 32 = omega arith in
-    let more = walks_on slot plan c.args.s.start lent small l.counter l.w (c.in_ok-more.was ∙ ap Ok c.in-Some.is) (omega arith) l.invariant.walking c.step.ensures.onward in
+    let more = walks_on slot plan c.args.s.start lent small l.counter l.w (c.in-Ok-Some.is ∙ ap Ok c.in-Ok-Some.field-0-is) (omega arith) l.invariant.walking c.step.ensures.onward in
     record { few = omega arith; walking = rw add-one more }
 
-pub returns-in-None : goal.returns-in-None
-returns-in-None g c =
+pub returns-in-Ok-None : goal.returns-in-Ok-None
+returns-in-Ok-None g c =
     let slot : Slot = slot_of ours c.args.s.profile in
     let plan : Plan = plan_of c.args.s in
     let l = c.loop in
     let lent : Lent slot (length l.block) (length l.area) = record { size = l.auto.block ∙ c.requires.size; most = omega (arith, l.auto.area, c.requires.most) } in
     let small : c.args.s.start < 2 ^ 32 = omega arith in
-    walks_on slot plan c.args.s.start lent small l.counter l.w (c.in_ok-more.was ∙ ap Ok c.in-None.is) (omega arith) l.invariant.walking c.step.ensures.onward
+    walks_on slot plan c.args.s.start lent small l.counter l.w (c.in-Ok-None.is ∙ ap Ok c.in-Ok-None.field-0-is) (omega arith) l.invariant.walking c.step.ensures.onward
+
+pub returns-in-Err : goal.returns-in-Err
+returns-in-Err g c =
+    let slot : Slot = slot_of ours c.args.s.profile in
+    let plan : Plan = plan_of c.args.s in
+    let l = c.loop in
+    let lent : Lent slot (length l.block) (length l.area) = record { size = l.auto.block ∙ c.requires.size; most = omega (arith, l.auto.area, c.requires.most) } in
+    let small : c.args.s.start < 2 ^ 32 = omega arith in
+    walks_on slot plan c.args.s.start lent small l.counter l.w c.in-Err.is (omega arith) l.invariant.walking c.step.ensures.onward
 
 pub returns : goal.returns
 returns g c =

@@ -55,5 +55,6 @@ returns c =
     let j_of : ℕ = nat_abs (stored (rem_z (stored c.ends-e.result.last) (pos 512))) in
     let below : j_of < c.args.h = rw j_is (last_below c.args.h _ c.requires.some c.requires.few) in
     let x = at c.args.part.now in
-    places_meet x (λ i. x (c.args.h + i)) c.requires.some c.requires.few j_is (sym i_is ∙ c.if-i-j.false)
-    (peak_as (first_read c.requires below) (second_read c.requires below) c.peak_at.ensures)
+    rw c.ok.ensures.value
+    (places_meet x (λ i. x (c.args.h + i)) c.requires.some c.requires.few j_is (sym i_is ∙ c.if-i-j.false)
+    (peak_as (first_read c.requires below) (second_read c.requires below) c.peak_at.ensures))
