@@ -22,7 +22,7 @@
  *   - each pointer is valid for its length;
  *   - the output overlaps the input nowhere.
  *
- * Stack: gateway_decode holds its own working numbers there, in all 12,288 bytes at most; the other calls take 2,560. (Measured on x86-64 with the C
+ * Stack: gateway_decode holds its own working numbers there, in all 11,264 bytes at most; the other calls take 2,560. (Measured on x86-64 with the C
  * library's memcpy and memset, not proved.)
  */
 #ifndef FEZQALYR_GATEWAY_H

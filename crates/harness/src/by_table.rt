@@ -9,9 +9,7 @@ ghost use Rattle.packing.specs.ByTable.{ReturnsLoaded, ReturnsRecord, made, tabl
 
 use packing::by_table;
 use profiles::Profile;
-use refusals::Refusal;
-use table_files::Loaded;
-use tables::Table;
+use tables::{Standard, Table};
 
 // Under an entry of the table of a file.
 #[unsafe(no_mangle)]
@@ -68,25 +66,15 @@ pub extern "C" fn rm_decode_made(
     packing::pack_decoded(answer)
 }
 
-// The table of a file, document 01's where the file has length 0.
-fn table_of(file: &[u8]) -> Loaded
-    ensures { result ≡ table_of file.now }
-{
-    if file.len() == 0 {
-        return Loaded {
-            answer: Ok(()),
-            table: tables::ours(),
-        };
-    }
-    table_files::load(file, tables::ours())
-}
-
-// One call of the capture reader: `rest` is the capture from a record on.
+// One call of the capture reader: `rest` is the capture from a record on. Under the table of the file, document 01's where that has length 0.
 #[unsafe(no_mangle)]
 pub extern "C" fn rm_record(file: &[u8], rest: &[u8], word: &mut [u8]) -> u64
     ensures { ReturnsRecord (table_of file.now) rest.now word.old word.new result }
 {
-    let l = table_of(file);
+    if file.len() == 0 {
+        return by_table::pack_found(capture::find_record(&Standard, rest, 0, word));
+    }
+    let l = table_files::load(file, tables::ours());
     let answer = l.answer;
     let refusal = by_table::pack_number(answer);
     if refusal != 0 {

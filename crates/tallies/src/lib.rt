@@ -3,7 +3,6 @@
 
 ghost use Rattle.std.specs.Prelude.{◌≡◌, ◌<◌, not};
 ghost use Rattle.std.specs.List.{position};
-ghost use Rattle.tallies.specs.Store;
 ghost use Rattle.tallies.specs.Store.{kept, holding, used_in, found, room_for, held_tally, empty_store, saved, returned, dropped};
 
 use refusals::Refusal;
@@ -47,22 +46,22 @@ fn holds(place: Option<Place>, name: Name) -> bool
 }
 
 // The place that holds a tally under that name.
-fn find(store: Store, name: Name) -> Option<usize>
-    ensures { result ≡ position (holding name) store.places }
+fn find(store: &Store, name: Name) -> Option<usize>
+    ensures { result ≡ position (holding name) store.now.places }
 {
     store.places.iter().position(|p| holds(*p, name))
 }
 
 // The first free place.
-fn free(store: Store) -> Option<usize>
-    ensures { result ≡ position (λ p. not (used_in p)) store.places }
+fn free(store: &Store) -> Option<usize>
+    ensures { result ≡ position (λ p. not (used_in p)) store.now.places }
 {
     store.places.iter().position(|p| p.is_none())
 }
 
 // The place for a tally under that name: its own, else the first that is free.
-fn room(store: Store, name: Name) -> Option<usize>
-    ensures { result ≡ found (room_for store name) }
+fn room(store: &Store, name: Name) -> Option<usize>
+    ensures { result ≡ found (room_for store.now name) }
 {
     match find(store, name) {
         Some(own) => Some(own),
@@ -71,40 +70,60 @@ fn room(store: Store, name: Name) -> Option<usize>
 }
 
 // The tally under that name.
-fn held(store: Store, name: Name) -> Option<Tally>
-    ensures { result ≡ held_tally store name }
+fn held(store: &Store, name: Name) -> Option<Tally>
+    ensures { result ≡ held_tally store.now name }
 {
     let at = find(store, name)?;
     let place = store.places[at]?;
     Some(place.tally)
 }
 
-fn put(store: Store, at: usize, place: Option<Place>) -> Store
-    requires { at < 16 }
-    ensures { result ≡ Rattle.tallies.specs.Store.put store at place }
-{
-    let mut next = store;
-    next.places[at] = place;
-    next
-}
-
-fn refused(why: Refusal, tally: Tally, store: Store) -> Kept
-    ensures { result ≡ kept (Err why) tally store }
-{
-    Kept {
-        answer: Err(why),
-        tally,
-        store,
-    }
-}
-
-fn done(tally: Tally, store: Store) -> Kept
+// What stands before the first call.
+fn before(tally: Tally, store: Store) -> Kept
     ensures { result ≡ kept (Ok tt) tally store }
 {
     Kept {
         answer: Ok(()),
         tally,
         store,
+    }
+}
+
+// The calls in place: a store is two kilobytes, and a run of a script would copy it at each operation.
+fn save_in(state: &mut Kept, name: Name)
+    ensures { state.new ≡ saved state.old.store name state.old.tally }
+{
+    match room(&state.store, name) {
+        Some(at) => {
+            let tally = state.tally;
+            state.store.places[at] = Some(Place { name, tally });
+            state.answer = Ok(());
+        }
+        None => state.answer = Err(Refusal::NamesFull),
+    }
+}
+
+fn return_in(state: &mut Kept, name: Name)
+    ensures { state.new ≡ returned state.old.store name state.old.tally }
+{
+    match held(&state.store, name) {
+        Some(earlier) => {
+            state.tally = earlier;
+            state.answer = Ok(());
+        }
+        None => state.answer = Err(Refusal::UnknownName),
+    }
+}
+
+fn drop_in(state: &mut Kept, name: Name)
+    ensures { state.new ≡ dropped state.old.store name state.old.tally }
+{
+    match find(&state.store, name) {
+        Some(at) => {
+            state.store.places[at] = None;
+            state.answer = Ok(());
+        }
+        None => state.answer = Err(Refusal::UnknownName),
     }
 }
 
@@ -119,28 +138,25 @@ pub fn empty() -> Store
 pub fn save(store: Store, name: Name, tally: Tally) -> Kept
     ensures { result ≡ saved store name tally }
 {
-    match room(store, name) {
-        Some(at) => done(tally, put(store, at, Some(Place { name, tally }))),
-        None => refused(Refusal::NamesFull, tally, store),
-    }
+    let mut state = before(tally, store);
+    save_in(&mut state, name);
+    state
 }
 
 // Returns to the tally under that name, in place of the one given.
 pub fn return_to(store: Store, name: Name, tally: Tally) -> Kept
     ensures { result ≡ returned store name tally }
 {
-    match held(store, name) {
-        Some(earlier) => done(earlier, store),
-        None => refused(Refusal::UnknownName, tally, store),
-    }
+    let mut state = before(tally, store);
+    return_in(&mut state, name);
+    state
 }
 
 // Drops the name, whose place is then free.
 pub fn drop_name(store: Store, name: Name, tally: Tally) -> Kept
     ensures { result ≡ dropped store name tally }
 {
-    match find(store, name) {
-        Some(at) => done(tally, put(store, at, None)),
-        None => refused(Refusal::UnknownName, tally, store),
-    }
+    let mut state = before(tally, store);
+    drop_in(&mut state, name);
+    state
 }

@@ -4,7 +4,7 @@ ghost use Rattle.refusals.specs.Refusals.{answer_number};
 ghost use Rattle.tallies.specs.History.{operated};
 ghost use Rattle.tallies.specs.Script.{Runs, RunsLent, size_of, size_at, name_at, operation_at};
 
-use crate::{Kept, Name, done, drop_name, empty, return_to, save};
+use crate::{Kept, Name, before, drop_in, empty, return_in, save_in};
 use refusals::Refusal;
 use tally::{Tally, counted, of_counts, put};
 
@@ -54,21 +54,21 @@ fn name_at(script: &[u8], from: usize) -> Name
 }
 
 // Makes the operation at a position, after what the one before it left.
-fn operate(script: &[u8], at: usize, last: Kept) -> Kept
+fn operate(script: &[u8], at: usize, last: &mut Kept)
     requires { 0 < size_at script.now at }
-    ensures { result ≡ operated (operation_at script.now at) last }
+    ensures { last.new ≡ operated (operation_at script.now at) last.old }
 {
-    let tally = last.tally;
-    let store = last.store;
     let code = script[at];
     if code == 0 {
-        return done(counted(tally, usize::from(script[at + 1])), store);
+        last.tally = counted(last.tally, usize::from(script[at + 1]));
+        last.answer = Ok(());
+        return;
     }
     let name = name_at(script, at + 1);
     match code {
-        1 => save(store, name, tally),
-        2 => return_to(store, name, tally),
-        _ => drop_name(store, name, tally),
+        1 => save_in(last, name),
+        2 => return_in(last, name),
+        _ => drop_in(last, name),
     }
 }
 
@@ -81,8 +81,8 @@ fn number(answer: Result<(), Refusal>) -> u8
     }
 }
 
-fn ended(made: usize, last: Kept) -> Ran
-    ensures { (result.made ≡ made) × (result.tally ≡ last.tally) }
+fn ended(made: usize, last: &Kept) -> Ran
+    ensures { (result.made ≡ made) × (result.tally ≡ last.now.tally) }
 {
     let tally = last.tally;
     Ran { made, tally }
@@ -92,23 +92,18 @@ fn ended(made: usize, last: Kept) -> Ran
 pub fn run(script: &[u8], answers: &mut [u8], tally: Tally) -> Ran
     ensures { Runs script.now tally answers.old answers.new result }
 {
-    let mut last = Kept {
-        answer: Ok(()),
-        tally,
-        store: empty(),
-    };
+    let mut last = before(tally, empty());
     let mut at = 0;
     for made in 0..answers.len() {
         let size = size_at(script, at);
         if size == 0 {
-            return ended(made, last);
+            return ended(made, &last);
         }
-        last = operate(script, at, last);
-        let answer = last.answer;
-        answers[made] = number(answer);
+        operate(script, at, &mut last);
+        answers[made] = number(last.answer);
         at += size;
     }
-    ended(answers.len(), last)
+    ended(answers.len(), &last)
 }
 
 // Runs a script on lent counts. Where these are not 32, it writes nothing and answers the greatest number.

@@ -18,7 +18,7 @@ bounds-script-at-then-code-eq0 c =
 
 pub returns-then-code-eq0 : goal.returns-then-code-eq0
 returns-then-code-eq0 c =
-    c.done.ensures ∙ rw (c.counted.ensures, c.from.ensures) (counts _ _ _ c.if-code-eq0.true)
+    rw (c.counted-last.ensures, c.from.ensures) (counts _ _ _ c.if-code-eq0.true)
 
 pub name_at-name-requires : goal.name_at-name-requires
 name_at-name-requires c =
@@ -26,12 +26,12 @@ name_at-name-requires c =
 
 pub returns-in-1 : goal.returns-in-1
 returns-in-1 c =
-    c.save.ensures ∙ rw c.name_at-name.ensures (saves _ _ _ c.if-code-eq0.false (omega arith))
+    c.save_in.ensures ∙ rw c.name_at-name.ensures (saves _ _ _ c.if-code-eq0.false (omega arith))
 
 pub returns-in-2 : goal.returns-in-2
 returns-in-2 c =
-    c.return_to.ensures ∙ rw c.name_at-name.ensures (returns_to _ _ _ c.if-code-eq0.false (λ e. omega arith) (omega arith))
+    c.return_in.ensures ∙ rw c.name_at-name.ensures (returns_to _ _ _ c.if-code-eq0.false (λ e. omega arith) (omega arith))
 
 pub returns-in_default : goal.returns-in_default
 returns-in_default c =
-    c.drop_name.ensures ∙ rw c.name_at-name.ensures (drops _ _ _ c.if-code-eq0.false (λ e. omega arith) (λ e. omega arith))
+    c.drop_in.ensures ∙ rw c.name_at-name.ensures (drops _ _ _ c.if-code-eq0.false (λ e. omega arith) (λ e. omega arith))

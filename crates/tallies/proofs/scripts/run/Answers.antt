@@ -5,7 +5,7 @@ use Rattle.tallies.proofs.scripts.run.Goals as goal
 
 pub loop-made-init : goal.loop-made-init
 loop-made-init c =
-    rw c.empty.ensures (running_starts _ _ _)
+    rw (c.before-last.ensures, c.empty.ensures) (running_starts _ _ _)
 
 pub returns-then-size-eq0 : goal.returns-then-size-eq0
 returns-then-size-eq0 c =
@@ -17,7 +17,7 @@ overflow_add-at c =
 
 pub loop-made-preserved : goal.loop-made-preserved
 loop-made-preserved c =
-    running_more c.loop-made.invariant (omega (arith, c.loop-made.invariant.written.long)) c.size_at-size.ensures (omega arith) c.operate-last.ensures c.number.ensures
+    running_more c.loop-made.invariant (omega (arith, c.loop-made.invariant.written.long)) c.size_at-size.ensures (omega arith) c.operate.ensures c.number.ensures
 
 pub returns : goal.returns
 returns c =

@@ -4,4 +4,4 @@ use Rattle.tallies.proofs.scripts.run.Given as goal
 
 abbrev pub invariant-loop-made : goal.invariant-loop-made
 invariant-loop-made l =
-    Running l.script l.initial.last.tally l.initial.answers l.answers l.at l.made l.last
+    Running l.script l.fn.tally l.initial.answers l.answers l.at l.made l.last
