@@ -1,7 +1,7 @@
 // Sixteen places for tallies under names of 8 bytes.
 #![tactic(auto)]
 
-ghost use Rattle.std.specs.Prelude.{◌≡◌, ◌<◌, not};
+ghost use Rattle.std.specs.Prelude.{◌≡◌, not};
 ghost use Rattle.std.specs.List.{position};
 ghost use Rattle.tallies.specs.Store.{kept, holding, used_in, found, room_for, held_tally, empty_store, saved, returned, dropped};
 
